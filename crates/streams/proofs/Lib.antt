@@ -1,0 +1,3 @@
+mod Fours
+mod Loading
+pub mod Sums

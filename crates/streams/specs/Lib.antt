@@ -1,0 +1,4 @@
+pub mod Refusals
+pub mod Heat
+pub mod Rules
+pub mod Checked

@@ -1,0 +1,2 @@
+mod Largest
+mod Descent

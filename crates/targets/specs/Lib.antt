@@ -1,0 +1,2 @@
+pub mod Deficits
+pub mod Found

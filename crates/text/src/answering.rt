@@ -1,0 +1,50 @@
+// From text to printed text.
+use crate::faults::LineFault;
+use crate::faults::Turned;
+use crate::faults::TurnedFromAlloc;
+use crate::problem::read_problem;
+use std::alloc::AllocError;
+use std::alloc::Global;
+use std::str::from_utf8;
+use targets::Targets;
+
+// The line that says what has to be bought, what goes to the river, and where nothing may pass.
+fn first_line(heap: Global, t: Targets) -> Result<String, AllocError> {
+    let heating = t.heating;
+    let cooling = t.cooling;
+    match t.pinch {
+        Some(degree) => format!(
+            heap,
+            "boiler {heating}, river {cooling}, nothing passes at {degree}\n"
+        ),
+        None => format!(
+            heap,
+            "boiler {heating}, river {cooling}, nothing is lacking\n"
+        ),
+    }
+}
+
+// The bytes as text, or the line of the first that are none.
+fn decode(bytes: &[u8]) -> Result<&str, Turned<'_>> {
+    match from_utf8(bytes) {
+        Ok(text) => Ok(text),
+        Err(e) => {
+            let mut line: usize = 1;
+            for b in bytes.iter().take(e.valid_up_to()) {
+                if *b == b'\n' {
+                    line = line.saturating_add(1);
+                }
+            }
+            Err(Turned::Unreadable(line, LineFault::NotUtf8))
+        }
+    }
+}
+
+// What is printed for a text, or why it is turned away.
+pub fn answer(heap: Global, bytes: &[u8]) -> Result<String, Turned<'_>> {
+    let problem = read_problem(heap, decode(bytes)?)?;
+    match streams::check(problem.numbers.as_slice(), problem.gap as u64) {
+        Ok(table) => Ok(first_line(heap, Targets::of(&table.loads()))?),
+        Err(refusal) => Err(Turned::Refused(refusal, problem.line_of(refusal))),
+    }
+}
