@@ -1,3 +1,4 @@
 mod Fours
 mod Loading
 pub mod Sums
+pub mod Laws

@@ -5,14 +5,20 @@ use mathlib.Core.List.{List}
 use Prim.Native.Nat.{ℕ, _+_, _*_, _<_, _≤_}
 use native.Mathlib.Omega.{arith}
 use lib.ListN.{getD, length, drop}
+use Rattle.std.specs.shelf.Lists.{All}
+use Rattle.std.proofs.shelf.Elements.{all-from-getD}
 use Rattle.std.proofs.shelf.Lists.{at-drop-more, at-drop-all, length-take, getD-take}
 use Rattle.streams.specs.declared.model.Kind.{Kind}
 use Rattle.streams.specs.declared.model.Kind.the-variants.{Hot, Cold}
 use Rattle.streams.specs.declared.model.Stream.{Stream}
+use Rattle.streams.specs.declared.loads.Loads.{Loads}
 use Rattle.streams.specs.declared.table.StreamTable.{StreamTable}
 use Rattle.streams.specs.Heat.{within, is, heat, load}
 use Rattle.streams.specs.Rules.{Sound, blank}
 use Rattle.streams.specs.Checked.{listed}
+use Rattle.streams.specs.Loaded.{supply-in, demand-in, Loads-of, Loaded}
+use Rattle.streams.proofs.Sums.{sum-ext}
+use Rattle.streams.proofs.Laws.{load-shuffled, load-cut, load-whole}
 
 pub within-le : (low high d rate : ℕ) → cond (within low high d) rate 0 ≤ rate
 within-le low high d rate = elim (within low high d) as (λ b. cond b rate 0 ≤ rate) [ true ↦ omega arith | false ↦ omega arith ]
@@ -52,15 +58,13 @@ module _ (k : Kind) (shift : ℕ) (ss : List Stream) where
   summed-none sums z = record { sum-is = λ d l. omega (arith, z d l); few = λ d l. omega (arith, z d l) }
 
   -- a stream of the kind is added, and one of the other kind passed over
-  pub summed-more : (i low high : ℕ) (sums sums₁ : List ℕ) → i < length ss → getD ss i blank .kind ≡ k → getD ss i blank .rate ≤ 1000000 →
-      low ≡ getD ss i blank .low + shift → high ≡ getD ss i blank .high + shift →
-      ((d : ℕ) → d < 1000 → getD sums₁ d 0 ≡ getD sums d 0 + cond (within low high d) (getD ss i blank .rate) 0) →
+  pub summed-more : (i : ℕ) (sums sums₁ : List ℕ) → i < length ss → getD ss i blank .kind ≡ k → getD ss i blank .rate ≤ 1000000 →
+      ((d : ℕ) → d < 1000 → getD sums₁ d 0 ≡ getD sums d 0 + cond (within (getD ss i blank .low + shift) (getD ss i blank .high + shift) d) (getD ss i blank .rate) 0) →
       Summed k shift ss i sums → Summed k shift ss (i + 1) sums₁
-  summed-more i low high sums sums₁ l e f el eh added s =
-      let part : (d : ℕ) → heat k shift (getD ss i blank) d ≡ cond (within low high d) (getD ss i blank .rate) 0 = λ d. rw (el, eh) (heat-is k shift (getD ss i blank) d e) in
+  summed-more i sums sums₁ l e f added s =
       record {
-        sum-is = λ d h. omega (arith, added d h, s .sum-is d h, load-more k shift ss i d l, part d);
-        few = λ d h. omega (arith, added d h, s .few d h, within-le low high d (getD ss i blank .rate));
+        sum-is = λ d h. omega (arith, added d h, s .sum-is d h, load-more k shift ss i d l, heat-is k shift (getD ss i blank) d e);
+        few = λ d h. omega (arith, added d h, s .few d h, within-le (getD ss i blank .low + shift) (getD ss i blank .high + shift) d (getD ss i blank .rate));
       }
 
   pub summed-past : (i : ℕ) (sums : List ℕ) → i < length ss → (getD ss i blank .kind ≡ k → ⊥) → Summed k shift ss i sums → Summed k shift ss (i + 1) sums
@@ -83,3 +87,27 @@ item-sound t items i e l =
 
 pub items-few : (t : StreamTable) (items : List Stream) → items ≡ listed t → length items ≤ 64
 items-few t items e = omega (arith, ap length e, length-take (t .count) (t .streams), t .few)
+
+below-top : (t : StreamTable) (shift : ℕ) → shift ≤ t .gap → All (λ s. s .high + shift ≤ 1000) (listed t)
+below-top t shift l =
+    all-from-getD (λ s. s .high + shift ≤ 1000) (listed t) blank
+    (λ i h. let item = item-sound t (listed t) i refl h in omega arith)
+
+-- what is exact in each degree keeps the other promises
+pub loaded : (t : StreamTable) (l : Loads) → Loads-of (t .gap) (listed t) l → Loaded t l
+loaded t l exact =
+    record {
+      exact = exact;
+      supply-whole = sum-ext 1000 (supply-in l) (load Hot 0 (listed t)) (exact .supply-is) ∙ load-whole Hot 0 (listed t) 1000 (below-top t 0 (omega arith));
+      demand-whole = sum-ext 1000 (demand-in l) (load Cold (t .gap) (listed t)) (exact .demand-is) ∙ load-whole Cold (t .gap) (listed t) 1000 (below-top t (t .gap) (omega arith));
+      any-order = λ ss sh.
+          record {
+            supply-is = λ d h. exact .supply-is d h ∙ load-shuffled Hot 0 (listed t) ss d sh;
+            demand-is = λ d h. exact .demand-is d h ∙ load-shuffled Cold (t .gap) (listed t) ss d sh;
+          };
+      any-cut = λ ss c.
+          record {
+            supply-is = λ d h. exact .supply-is d h ∙ load-cut Hot 0 (listed t) ss d c;
+            demand-is = λ d h. exact .demand-is d h ∙ load-cut Cold (t .gap) (listed t) ss d c;
+          };
+    }

@@ -43,6 +43,10 @@ pub split-at : (top d : ℕ) (f : ℕ → ℕ) → d ≤ top → sum-below top f
 unfolding sum-from
 split-at top d f l = let e : d + (top - d) ≡ top = omega arith in rw e at (sum-split d (top - d) f)
 
+pub from-ext : (top d : ℕ) (f g : ℕ → ℕ) → ((i : ℕ) → i < top → f i ≡ g i) → sum-from top d f ≡ sum-from top d g
+unfolding sum-from
+from-ext top d f g e = sum-ext (top - d) _ _ (λ i l. e (d + i) (omega arith))
+
 pub from-top : (top d : ℕ) (f : ℕ → ℕ) → top ≤ d → sum-from top d f ≡ 0
 unfolding sum-from sum-below
 from-top top d f l = let e : top - d ≡ 0 = omega arith in rw e refl

@@ -1,8 +1,8 @@
--- What the check answers, and what a checked table's loads are.
+-- What the check answers.
 use mathlib.Core.Path.{_≡_}
 use mathlib.Core.List.{List}
-use Prim.Native.Nat.{ℕ, _<_}
-use lib.ListN.{getD, take}
+use Prim.Native.Nat.{ℕ}
+use lib.ListN.{take}
 use Rattle.std.specs.declared.option.Option.{Option}
 use Rattle.std.specs.declared.option.Option.the-variants.{Some, None}
 use Rattle.std.specs.declared.result.Result.{Result}
@@ -10,8 +10,6 @@ use Rattle.std.specs.declared.result.Result.the-variants.{Ok, Err}
 use Rattle.streams.specs.declared.model.Stream.{Stream}
 use Rattle.streams.specs.declared.refusals.Refusal.{Refusal}
 use Rattle.streams.specs.declared.table.StreamTable.{StreamTable}
-use Rattle.streams.specs.declared.loads.Loads.{Loads}
-use Rattle.streams.specs.Heat.{supply-of, demand-of}
 use Rattle.streams.specs.Rules.{streams-in, refusal, refusal-with-room}
 
 -- the streams of a table, in their order
@@ -28,8 +26,3 @@ Checked xs gap r = Answers (refusal xs gap) xs gap r
 
 abbrev pub Checked-with-room : List ℕ → ℕ → (room : List ℕ) → Result StreamTable Refusal → Type 0
 Checked-with-room xs gap room r = Answers (refusal-with-room xs gap room) xs gap r
-
--- each degree has what the table's streams give and take there
-pub record Loaded (t : StreamTable) (l : Loads) : Type 0 where
-  pub supply-is : (d : ℕ) → d < 1000 → getD (l .supply) d 0 ≡ supply-of (listed t) d
-  pub demand-is : (d : ℕ) → d < 1000 → getD (l .demand) d 0 ≡ demand-of (t .gap) (listed t) d

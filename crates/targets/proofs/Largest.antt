@@ -30,3 +30,8 @@ most-met (suc n) f =
 pub most-is : (n : ℕ) (f : ℕ → ℕ) (m : ℕ) → ((i : ℕ) → i < n → f i ≤ m) → ((m ≡ 0) ⊎ ((i : ℕ) × (i < n) × (f i ≡ m))) → m ≡ most-below n f
 most-is n f m up (inl z) = omega (arith, most-least n f m up)
 most-is n f m up (inr w) = omega (arith, most-least n f m up, le-most n f (w .0) (w .1))
+
+pub most-ext : (n : ℕ) (f g : ℕ → ℕ) → ((i : ℕ) → i < n → f i ≡ g i) → most-below n f ≡ most-below n g
+unfolding most-below
+most-ext zero f g e = refl
+most-ext (suc n) f g e = omega (arith, most-ext n f g (λ i h. e i (omega arith)), e n (omega arith))

@@ -1,2 +1,7 @@
-mod Largest
-mod Descent
+pub mod Largest
+mod Down
+mod Turns
+pub mod Balance
+pub mod Optimal
+mod Gaps
+mod Promises

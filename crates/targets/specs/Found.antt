@@ -1,20 +1,35 @@
--- What is found of supply and demand.
+-- What is found of supply and demand, and of a table of streams.
 use mathlib.Core.Path.{_≡_}
-use Prim.Native.Nat.{ℕ, _+_}
-use lib.ListN.{getD}
-use Rattle.streams.specs.declared.loads.Loads.{Loads}
-use Rattle.streams.specs.Heat.{sum-below}
+use mathlib.Core.List.{List}
+use Prim.Native.Nat.{ℕ, _+_, _≤_}
+use Rattle.std.specs.Slices.{Shuffled}
+use Rattle.streams.specs.declared.model.Stream.{Stream}
+use Rattle.streams.specs.declared.table.StreamTable.{StreamTable}
+use Rattle.streams.specs.Checked.{listed}
+use Rattle.streams.specs.Heat.{sum-below, supply-of, demand-of}
+use Rattle.streams.specs.Loaded.{Cut}
 use Rattle.targets.specs.declared.Targets.{Targets}
 use Rattle.targets.specs.Deficits.{deficit, target, Lowest}
+use Rattle.targets.specs.Plans.{Least, Accounted, Closes}
+use Rattle.targets.specs.Kept.{Keeps-gap}
 
--- supply and demand as functions of the degree
-abbrev pub supply-in : Loads → ℕ → ℕ
-supply-in l d = getD (l .supply) d 0
-
-abbrev pub demand-in : Loads → ℕ → ℕ
-demand-in l d = getD (l .demand) d 0
-
+-- heating is the most that is lacking from any degree up, and the least that any plan buys; cooling follows from it; the pinch is the lowest
+-- degree from which as much is lacking, and there is one just if anything has to be bought
 pub record Found (supply demand : ℕ → ℕ) (t : Targets) : Type 0 where
   pub heating-is : t .heating ≡ target 1000 supply demand
   pub cooling-is : sum-below 1000 supply + t .heating ≡ sum-below 1000 demand + t .cooling
   pub pinch-is : Lowest 1000 (deficit 1000 supply demand) (t .heating) (t .pinch)
+  pub least : Least 1000 supply demand (t .heating)
+  pub accounted : Accounted 1000 supply demand
+  pub closes : Closes 1000 supply demand (t .heating)
+
+-- the same for streams and a gap
+abbrev pub Found-for : ℕ → List Stream → Targets → Type 0
+Found-for gap ss t = Found (supply-of ss) (demand-of gap ss) t
+
+-- of a table: its targets, which are also those of its streams in any other order, or with one of them cut in two; and every feasible plan keeps the gap
+pub record Found-of (s : StreamTable) (t : Targets) : Type 0 where
+  pub found : Found-for (s .gap) (listed s) t
+  pub any-order : (ss : List Stream) → Shuffled (listed s) ss → Found-for (s .gap) ss t
+  pub any-cut : (ss : List Stream) → Cut (listed s) ss → Found-for (s .gap) ss t
+  pub keeps-gap : Keeps-gap 1000 (s .gap) (listed s)

@@ -1,7 +1,13 @@
 // Targets: the least heat that has to be bought, what then goes to the river, and the degree across which nothing may pass.
-ghost use Rattle.targets.specs.Found.{Found, supply-in, demand-in};
+mod cascade;
+
+ghost use Rattle.streams.specs.Loaded.{supply-in, demand-in};
+ghost use Rattle.targets.specs.Found.{Found, Found-of};
+ghost use Rattle.targets.specs.Kept.{Smaller-gap};
+use cascade::Descent;
 use streams::DEGREES;
 use streams::Loads;
+use streams::StreamTable;
 
 // What the cheapest plan buys and what it sends to the river, and the lowest degree from which as much is lacking as has to be bought.
 #[derive(Clone, Copy)]
@@ -12,29 +18,32 @@ pub struct Targets {
 }
 
 impl Targets {
-    // Goes down from the warmest degree with what is given and taken from there up; the most that is lacking on the way has to be bought.
+    // Goes down from the warmest degree, both arrays side by side, with what is lacking from there up.
     pub fn of(loads: &Loads) -> Targets
         ensures { λ r. ⌜ Found (supply-in (now (loads .entry))) (demand-in (now (loads .entry))) r ⌝ }
     {
-        let mut degree = DEGREES;
-        let mut supply = 0u64;
-        let mut demand = 0u64;
-        let mut heating = 0u64;
-        let mut pinch = None;
+        let mut so_far = Descent {
+            degree: DEGREES,
+            supply: 0,
+            demand: 0,
+            most: 0,
+            pinch: None,
+        };
         for (give, take) in loads.supply.iter().rev().zip(loads.demand.iter().rev()) {
-            degree -= 1;
-            supply += *give;
-            demand += *take;
-            let lacking = demand.saturating_sub(supply);
-            if lacking >= heating.max(1) {
-                heating = lacking;
-                pinch = Some(degree);
-            }
+            so_far = so_far.lower(*give, *take);
         }
         Targets {
-            heating,
-            cooling: supply + heating - demand,
-            pinch,
+            heating: so_far.most,
+            cooling: so_far.supply + so_far.most - so_far.demand,
+            pinch: so_far.pinch,
         }
+    }
+
+    // The same for streams that were checked.
+    pub fn of_streams(table: &StreamTable) -> Targets
+        ensures found { λ r. ⌜ Found-of (now (table .entry)) r ⌝ }
+        ensures smaller_gap { λ _. ⌜ Smaller-gap ⌝ }
+    {
+        Targets::of(&table.loads())
     }
 }

@@ -44,7 +44,7 @@ fn decode(bytes: &[u8]) -> Result<&str, Turned<'_>> {
 pub fn answer(heap: Global, bytes: &[u8]) -> Result<String, Turned<'_>> {
     let problem = read_problem(heap, decode(bytes)?)?;
     match streams::check(problem.numbers.as_slice(), problem.gap as u64) {
-        Ok(table) => Ok(first_line(heap, Targets::of(&table.loads()))?),
+        Ok(table) => Ok(first_line(heap, Targets::of_streams(&table))?),
         Err(refusal) => Err(Turned::Refused(refusal, problem.line_of(refusal))),
     }
 }
