@@ -2,3 +2,4 @@ mod Fours
 mod Loading
 pub mod Sums
 pub mod Laws
+pub mod Taken

@@ -3,9 +3,19 @@ use mathlib.Core.Path.{_≡_, refl, ap, sym, _∙_}
 use mathlib.Core.Logic.{_⊎_, inl, inr}
 use Prim.Native.Nat.{ℕ, zero, suc, _+_, _*_, _-_, _≤_, _<_}
 use native.Mathlib.Omega.{arith}
-use native.Mathlib.Nat.{add-zero, add-suc, zero-add}
+use native.Mathlib.Nat.{add-zero, add-suc}
+use native.Mathlib.Numerals.{add-one}
 use Rattle.std.proofs.shelf.Tests.{cases-lt}
 use Rattle.streams.specs.Heat.{sum-below, sum-from}
+
+pub sum-none : (f : ℕ → ℕ) → sum-below 0 f ≡ 0
+unfolding sum-below
+sum-none f = refl
+
+-- one degree more, as a loop counts
+pub sum-more : (n : ℕ) (f : ℕ → ℕ) → sum-below (n + 1) f ≡ sum-below n f + f n
+unfolding sum-below
+sum-more n f = rw add-one refl
 
 pub sum-ext : (n : ℕ) (f g : ℕ → ℕ) → ((i : ℕ) → i < n → f i ≡ g i) → sum-below n f ≡ sum-below n g
 unfolding sum-below

@@ -4,4 +4,4 @@ mod Turns
 pub mod Balance
 pub mod Optimal
 mod Gaps
-mod Promises
+pub mod Promises

@@ -3,6 +3,8 @@ use crate::faults::LineFault;
 use crate::faults::Turned;
 use crate::faults::TurnedFromAlloc;
 use crate::problem::read_problem;
+use plans::OUTSIDE;
+use plans::write_plan;
 use std::alloc::AllocError;
 use std::alloc::Global;
 use std::str::from_utf8;
@@ -40,11 +42,35 @@ fn decode(bytes: &[u8]) -> Result<&str, Turned<'_>> {
     }
 }
 
+// A line for each transfer: from, to and how much.
+fn push_transfers(heap: Global, out: &mut String, numbers: &[u32]) -> Result<(), AllocError> {
+    let mut rest = numbers;
+    while let [from, to, heat, more @ ..] = rest {
+        let line = if *from == OUTSIDE {
+            format!(heap, "boiler to {to}, {heat}\n")?
+        } else if *to == OUTSIDE {
+            format!(heap, "{from} to river, {heat}\n")?
+        } else {
+            format!(heap, "{from} to {to}, {heat}\n")?
+        };
+        out.push_str(line.as_str())?;
+        rest = more;
+    }
+    Ok(())
+}
+
 // What is printed for a text, or why it is turned away.
 pub fn answer(heap: Global, bytes: &[u8]) -> Result<String, Turned<'_>> {
     let problem = read_problem(heap, decode(bytes)?)?;
-    match streams::check(problem.numbers.as_slice(), problem.gap as u64) {
-        Ok(table) => Ok(first_line(heap, Targets::of_streams(&table))?),
+    let mut room = [0; 6000];
+    match write_plan(problem.numbers.as_slice(), problem.gap as u64, &mut room) {
+        Ok(written) => {
+            let mut out = first_line(heap, written.targets)?;
+            if problem.plan_line != 0 {
+                push_transfers(heap, &mut out, &room[0..3 * written.transfers])?;
+            }
+            Ok(out)
+        }
         Err(refusal) => Err(Turned::Refused(refusal, problem.line_of(refusal))),
     }
 }

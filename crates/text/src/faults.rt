@@ -12,6 +12,7 @@ pub enum LineFault<'a> {
     NotANumber(&'a str),
     WordTooMany(&'a str),
     SecondGap,
+    SecondPlan,
     NotUtf8,
 }
 
@@ -30,7 +31,7 @@ impl<'a> LineFault<'a> {
             LineFault::UnknownWord(word) => (
                 "begins with '",
                 word,
-                "', and a line begins with hot, cold or gap",
+                "', and a line begins with hot, cold, gap or plan",
             ),
             LineFault::NumberMissing => (
                 "ends too early: hot and cold are followed by three whole numbers, gap by one",
@@ -48,6 +49,7 @@ impl<'a> LineFault<'a> {
                 "', where nothing more is wanted",
             ),
             LineFault::SecondGap => ("gives the gap a second time", "", ""),
+            LineFault::SecondPlan => ("asks for the plan a second time", "", ""),
             LineFault::NotUtf8 => ("has a byte that is no text in UTF-8", "", ""),
         }
     }

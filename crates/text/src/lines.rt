@@ -1,4 +1,4 @@
-// One line of a text: a stream, the gap, or nothing.
+// One line of a text: a stream, the gap, a wish for the plan, or nothing.
 use crate::faults::LineFault;
 use std::str::SplitWhitespace;
 use streams::Kind;
@@ -9,6 +9,7 @@ use streams::Stream;
 pub enum Statement {
     Stream(Stream),
     Gap(u32),
+    Plan,
 }
 
 // The line up to a '#', which begins a comment.
@@ -73,6 +74,10 @@ pub fn read_line(line: &str) -> Result<Option<Statement>, LineFault<'_>> {
             let gap = next_number(&mut words)?;
             finish(&mut words)?;
             Ok(Some(Statement::Gap(gap)))
+        }
+        "plan" => {
+            finish(&mut words)?;
+            Ok(Some(Statement::Plan))
         }
         _ => Err(LineFault::UnknownWord(word)),
     }

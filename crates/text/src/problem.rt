@@ -1,4 +1,4 @@
-// A whole text: its streams as numbers in fours, its gap, and on which lines they stand.
+// A whole text: its streams as numbers in fours, its gap, whether the plan is asked for, and on which lines they stand.
 use crate::faults::LineFault;
 use crate::faults::Turned;
 use crate::faults::TurnedFromAlloc;
@@ -10,13 +10,14 @@ use streams::Kind;
 use streams::Refusal;
 use streams::Stream;
 
-// What a text asks. Lines are counted from 1; `gap_line` is 0 where no line gives the gap, which is then 0.
+// What a text asks. Lines are counted from 1; `gap_line` is 0 where no line gives the gap, which is then 0, and `plan_line` where none asks for the plan.
 #[derive(Drop)]
 pub struct Problem {
     pub numbers: Vec<u32>,
     pub stream_lines: Vec<usize>,
     pub gap: u32,
     pub gap_line: usize,
+    pub plan_line: usize,
 }
 
 impl Problem {
@@ -48,6 +49,7 @@ pub fn read_problem(heap: Global, text: &str) -> Result<Problem, Turned<'_>> {
         stream_lines: Vec::new(heap),
         gap: 0,
         gap_line: 0,
+        plan_line: 0,
     };
     let mut line_number: usize = 0;
     for line in text.lines() {
@@ -61,6 +63,12 @@ pub fn read_problem(heap: Global, text: &str) -> Result<Problem, Turned<'_>> {
                 }
                 problem.gap = gap;
                 problem.gap_line = line_number;
+            }
+            Ok(Some(Statement::Plan)) => {
+                if problem.plan_line != 0 {
+                    return Err(Turned::Unreadable(line_number, LineFault::SecondPlan));
+                }
+                problem.plan_line = line_number;
             }
             Err(fault) => return Err(Turned::Unreadable(line_number, fault)),
         }

@@ -56,11 +56,11 @@ mod tests {
             ),
             (
                 "hot 180 60 3\n\nwram 1 2 3",
-                "turned away 4 at 2: line 3 begins with 'wram', and a line begins with hot, cold or gap",
+                "turned away 4 at 2: line 3 begins with 'wram', and a line begins with hot, cold, gap or plan",
             ),
             (
                 "plan",
-                "turned away 4 at 0: line 1 begins with 'plan', and a line begins with hot, cold or gap",
+                "turned away 4 at 0: line 1 begins with 'plan', and a line begins with hot, cold, gap or plan",
             ),
             (
                 "gap",

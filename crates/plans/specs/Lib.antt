@@ -1,0 +1,3 @@
+pub mod Transfers
+pub mod Promise
+pub mod Pieces
