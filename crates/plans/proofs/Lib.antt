@@ -1,8 +1,8 @@
-mod Room
+pub mod Room
 mod Rows
 mod Line
 mod Given
 mod Rejecting
 mod Serving
-mod Made
+pub mod Made
 mod Promised

@@ -8,8 +8,8 @@ use native.Mathlib.Omega.{arith}
 use lib.Dec.{eqb}
 use Rattle.std.proofs.shelf.Tests.{eq-eqb, ne-eqb, cases-order}
 use Rattle.plans.specs.declared.transfers.Transfer.{Transfer}
-use Rattle.plans.specs.Transfers.{mark}
-use Rattle.plans.specs.Pieces.{some, sent, got}
+use Rattle.plans.specs.Transfers.{mark, sent, got}
+use Rattle.plans.specs.Pieces.{some}
 use Rattle.plans.proofs.Rows.{sent-more, got-more, mark-eqb}
 
 abbrev pub Falls : (ℕ → ℕ) → Type 0

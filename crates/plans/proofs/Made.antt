@@ -15,8 +15,8 @@ use Rattle.streams.specs.Heat.{sum-below, sum-from}
 use Rattle.streams.proofs.Sums.{sum-ext, sum-add, sum-zero}
 use Rattle.targets.specs.Plans.{Feasible, bought}
 use Rattle.plans.specs.declared.transfers.Transfer.{Transfer}
-use Rattle.plans.specs.Transfers.{outside, flat, moved, plan-of, Place, Proper, Before, Ordered}
-use Rattle.plans.specs.Pieces.{sent, got, Put, Falling, Rejected, Served}
+use Rattle.plans.specs.Transfers.{outside, flat, moved, plan-of, Place, Proper, Before, Ordered, sent, got}
+use Rattle.plans.specs.Pieces.{Put, Falling, Rejected, Served}
 use Rattle.plans.specs.Promise.{Laid-out}
 use Rattle.plans.proofs.Rows.{sent-append, got-append, ordered-append}
 
@@ -54,7 +54,7 @@ column-one : (b : Bool) (t x : ℕ) → Place t → sum-below 1000 (λ d. cond (
 column-one true t x p = simp and-true (at-a-place t x p)
 column-one false t x p = simp and-false (row-one false t x p)
 
-row : (ts : List Transfer) (a : ℕ) → All Proper ts → sum-below 1000 (moved ts a) + moved ts a outside ≡ sent ts a
+pub row : (ts : List Transfer) (a : ℕ) → All Proper ts → sum-below 1000 (moved ts a) + moved ts a outside ≡ sent ts a
 unfolding moved sent
 row [] a p = omega (arith, sum-zero 1000 (moved [] a) (λ i l. refl))
 row (t ∷ ts) a p =
@@ -66,7 +66,7 @@ row (t ∷ ts) a p =
       row ts a (p .1),
     )
 
-column : (ts : List Transfer) (b : ℕ) → All Proper ts → sum-below 1000 (λ d. moved ts d b) + moved ts outside b ≡ got ts b
+pub column : (ts : List Transfer) (b : ℕ) → All Proper ts → sum-below 1000 (λ d. moved ts d b) + moved ts outside b ≡ got ts b
 unfolding moved got
 column [] b p = omega (arith, sum-zero 1000 (λ d. moved [] d b) (λ i l. refl))
 column (t ∷ ts) b p =
@@ -85,7 +85,7 @@ nowhere a b d e x n =
       | inr p ↦ rw (ne-eqb a d p) refl
     ]
 
-down : (ts : List Transfer) (d e : ℕ) → All Falling ts → d < e → e < 1000 → moved ts d e ≡ 0
+pub down : (ts : List Transfer) (d e : ℕ) → All Falling ts → d < e → e < 1000 → moved ts d e ≡ 0
 unfolding moved
 down [] d e f l k = refl
 down (t ∷ ts) d e f l k =
@@ -97,7 +97,7 @@ unfolding moved
 not-through [] p = refl
 not-through (t ∷ ts) p = omega (arith, nowhere (t .from) (t .to) outside outside (t .heat) (p .0 .apart), not-through ts (p .1))
 
-proper : (ts : List Transfer) → Ordered ts → All Proper ts
+pub proper : (ts : List Transfer) → Ordered ts → All Proper ts
 proper [] o = tt
 proper (t ∷ ts) o = (o .0, proper ts (o .2))
 

@@ -13,8 +13,8 @@ use Rattle.std.proofs.shelf.Tests.{cases-lt, cases-eq, eq-eqb, ne-eqb}
 use Rattle.streams.specs.Heat.{sum-from}
 use Rattle.streams.proofs.Sums.{from-step, from-top, from-falls}
 use Rattle.plans.specs.declared.transfers.Transfer.{Transfer}
-use Rattle.plans.specs.Transfers.{outside, flat, Above, Proper, Ordered}
-use Rattle.plans.specs.Pieces.{some, splice, spare, sent, Put, Rejected}
+use Rattle.plans.specs.Transfers.{outside, flat, Above, Proper, Ordered, sent}
+use Rattle.plans.specs.Pieces.{some, splice, spare, Put, Rejected}
 use Rattle.plans.proofs.Room.{spliced}
 use Rattle.plans.proofs.Rows.{some-none, some-few, all-more, ordered-more, sent-more}
 

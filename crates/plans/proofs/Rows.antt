@@ -11,8 +11,8 @@ use Rattle.std.specs.shelf.Lists.{All}
 use Rattle.std.proofs.shelf.Elements.{all-append, all-weaker}
 use Rattle.std.proofs.shelf.Tests.{cases-eq, cases-lt, eq-eqb, ne-eqb, lt-ltb, le-ltb, cases-order}
 use Rattle.plans.specs.declared.transfers.Transfer.{Transfer}
-use Rattle.plans.specs.Transfers.{outside, mark, Place, Proper, Above, Before, Ordered}
-use Rattle.plans.specs.Pieces.{some, sent, got}
+use Rattle.plans.specs.Transfers.{outside, mark, Place, Proper, Above, Before, Ordered, sent, got}
+use Rattle.plans.specs.Pieces.{some}
 
 pub some-none : (t : Transfer) → t .heat ≡ 0 → some t ≡ []
 unfolding some

@@ -12,8 +12,8 @@ use Rattle.streams.specs.Heat.{sum-from}
 use Rattle.streams.proofs.Sums.{from-step, from-falls, from-top}
 use Rattle.targets.specs.Deficits.{target}
 use Rattle.plans.specs.declared.transfers.Transfer.{Transfer}
-use Rattle.plans.specs.Transfers.{outside, mark, flat, Above, Proper, Ordered}
-use Rattle.plans.specs.Pieces.{some, splice, Falling, spare, sent, got, Put, Roomy, Served}
+use Rattle.plans.specs.Transfers.{outside, mark, flat, Above, Proper, Ordered, sent, got}
+use Rattle.plans.specs.Pieces.{some, splice, Falling, spare, Put, Roomy, Served}
 use Rattle.plans.proofs.Given.{Enough, enough, given, given-at, given-step, given-boiler, given-falls, given-past}
 use Rattle.plans.proofs.Room.{spliced}
 use Rattle.plans.proofs.Rows.{some-none, some-few, all-more, ordered-more, sent-more, mark-degree, mark-boiler, mark-place, mark-rises, mark-over}

@@ -9,7 +9,7 @@ use lib.ListN.{take, drop, length}
 use Rattle.std.specs.shelf.Lists.{All}
 use Rattle.streams.specs.Heat.{sum-below, sum-from}
 use Rattle.plans.specs.declared.transfers.Transfer.{Transfer}
-use Rattle.plans.specs.Transfers.{outside, flat, Ordered}
+use Rattle.plans.specs.Transfers.{outside, flat, sent, got, Ordered}
 
 -- a transfer, unless it is of nothing
 unfoldable pub some : Transfer → List Transfer
@@ -23,15 +23,6 @@ splice k ws room = take k room ++ (ws ++ drop (k + length ws) room)
 pub record Put (n : ℕ) (room room₁ : List ℕ) (ts : List Transfer) : Type 0 where
   pub count : n ≡ length ts
   pub room-is : room₁ ≡ flat ts ++ drop (3 * n) room
-
--- what all transfers from a come to, and all to b
-unfoldable pub sent : List Transfer → ℕ → ℕ
-sent [] a = 0
-sent (t ∷ ts) a = cond (eqb (t .from) a) (t .heat) 0 + sent ts a
-
-unfoldable pub got : List Transfer → ℕ → ℕ
-got [] b = 0
-got (t ∷ ts) b = cond (eqb (t .to) b) (t .heat) 0 + got ts b
 
 -- it goes to its own degree or a lower one, or to the river
 abbrev pub Falling : Transfer → Type 0

@@ -29,6 +29,15 @@ unfoldable pub moved : List Transfer → ℕ → ℕ → ℕ
 moved [] a b = 0
 moved (t ∷ ts) a b = cond (eqb (t .from) a && eqb (t .to) b) (t .heat) 0 + moved ts a b
 
+-- what all transfers from a come to, and all to b
+unfoldable pub sent : List Transfer → ℕ → ℕ
+sent [] a = 0
+sent (t ∷ ts) a = cond (eqb (t .from) a) (t .heat) 0 + sent ts a
+
+unfoldable pub got : List Transfer → ℕ → ℕ
+got [] b = 0
+got (t ∷ ts) b = cond (eqb (t .to) b) (t .heat) 0 + got ts b
+
 -- the plan that transfers make
 unfoldable pub plan-of : List Transfer → Plan
 plan-of ts = record { passes = moved ts; heating = moved ts outside; cooling = λ d. moved ts d outside }

@@ -1,0 +1,4 @@
+mod Adding
+mod Sorting
+mod Passing
+mod Agreeing
