@@ -1,0 +1,2 @@
+mod Lining
+mod Printing

@@ -1,14 +1,10 @@
-// Text: reads streams from the lines that a brewer writes, and prints the answer or says what is wrong; everything but the bytes in and out.
+// Text: reads what a brewer asks, line by line, and prints the answer, or says what is wrong; everything but the bytes in and out.
 mod answering;
-mod faults;
-mod lines;
 mod problem;
+mod reading;
+mod sentences;
+mod turned;
 
 pub use answering::answer;
-pub use faults::LineFault;
-pub use faults::Turned;
-pub use faults::TurnedDisplay;
-pub use lines::Statement;
-pub use lines::read_line;
-pub use problem::Problem;
-pub use problem::read_problem;
+pub use sentences::TurnedDisplay;
+pub use turned::Turned;

@@ -1,77 +1,90 @@
-// A whole text: its streams as numbers in fours, its gap, whether the plan is asked for, and on which lines they stand.
-use crate::faults::LineFault;
-use crate::faults::Turned;
-use crate::faults::TurnedFromAlloc;
-use crate::faults::TurnedFromRefused;
-use crate::lines::Statement;
-use crate::lines::read_line;
+// What a text asks, as it is read so far.
+ghost use mathlib.Core.Path.{_≡_};
+ghost use Rattle.text.specs.Asked.{four, asked-by, nothing-asked, Noted};
+use crate::turned::Turned;
+use crate::turned::TurnedFromAlloc;
+use crate::turned::TurnedFromRefused;
+use grammar::LineFault;
+use grammar::Statement;
 use std::alloc::Global;
 use streams::Kind;
 use streams::Refusal;
 use streams::Stream;
 
-// What a text asks. Lines are counted from 1; `gap_line` is 0 where no line gives the gap, which is then 0, and `plan_line` where none asks for the plan.
+// The streams as numbers in fours, with the places of their lines; the gap, if a line gave it, and that line's place; and whether the plan is wished for.
 #[derive(Drop)]
-pub struct Problem {
-    pub numbers: Vec<u32>,
-    pub stream_lines: Vec<usize>,
-    pub gap: u32,
-    pub gap_line: usize,
-    pub plan_line: usize,
+pub(crate) struct Problem {
+    pub(crate) numbers: Vec<u32>,
+    pub(crate) stream_places: Vec<usize>,
+    pub(crate) gap: Option<u32>,
+    pub(crate) gap_place: usize,
+    pub(crate) plan: bool,
+}
+
+// A stream as four numbers.
+fn numbers_of(s: Stream) -> [u32; 4]
+    ensures { λ r. ⌜ r ≡ four s ⌝ }
+{
+    match s.kind {
+        Kind::Hot => [1, s.low, s.high, s.rate],
+        Kind::Cold => [0, s.low, s.high, s.rate],
+    }
 }
 
 impl Problem {
-    fn add_stream(&mut self, s: Stream, line: usize) -> Result<(), Turned<'static>> {
-        let mark = match s.kind {
-            Kind::Hot => 1,
-            Kind::Cold => 0,
-        };
-        self.numbers
-            .extend_from_slice(&[mark, s.low, s.high, s.rate])?;
-        self.stream_lines.push(line)?;
+    // Nothing is asked yet.
+    pub(crate) fn new(heap: Global) -> Problem
+        ensures { λ r. ⌜ asked-by r ≡ nothing-asked ⌝ }
+    {
+        Problem {
+            numbers: Vec::new(heap),
+            stream_places: Vec::new(heap),
+            gap: None,
+            gap_place: 0,
+            plan: false,
+        }
+    }
+
+    // What the line at this place says is asked too, unless it was before.
+    pub(crate) fn note(
+        &mut self,
+        said: Option<Statement>,
+        place: usize,
+    ) -> Result<(), Turned<'static>>
+        ensures { λ r. ⌜ Noted (now (self .entry)) said place r (now (self .exit)) ⌝ }
+    {
+        match said {
+            None => {}
+            Some(Statement::Stream(s)) => {
+                self.numbers.extend_from_slice(&numbers_of(s))?;
+                self.stream_places.push(place)?;
+            }
+            Some(Statement::Gap(gap)) => {
+                if self.gap.is_some() {
+                    return Err(Turned::Unreadable(place, LineFault::SecondGap));
+                }
+                self.gap = Some(gap);
+                self.gap_place = place;
+            }
+            Some(Statement::Plan) => {
+                if self.plan {
+                    return Err(Turned::Unreadable(place, LineFault::SecondPlan));
+                }
+                self.plan = true;
+            }
+        }
         Ok(())
     }
 
-    // The line that a refusal speaks of.
-    pub fn line_of(&self, refusal: Refusal) -> usize {
+    // The place of the line that a refusal speaks of.
+    pub(crate) fn place_of(&self, refusal: Refusal) -> usize {
         match refusal {
-            Refusal::GapTooWide => self.gap_line,
-            Refusal::TooManyStreams(_) => self.stream_lines.get(64).copied().unwrap_or(0),
-            _ => self.stream_lines.get(refusal.place()).copied().unwrap_or(0),
+            Refusal::GapTooWide => self.gap_place,
+            Refusal::TooManyStreams(_) => self.stream_places.get(64).copied().unwrap_or(0),
+            _ => self.stream_places
+                .get(refusal.place())
+                .copied()
+                .unwrap_or(0),
         }
     }
-}
-
-// The problem that a text states, or the first line that can't be read.
-pub fn read_problem(heap: Global, text: &str) -> Result<Problem, Turned<'_>> {
-    let mut problem = Problem {
-        numbers: Vec::new(heap),
-        stream_lines: Vec::new(heap),
-        gap: 0,
-        gap_line: 0,
-        plan_line: 0,
-    };
-    let mut line_number: usize = 0;
-    for line in text.lines() {
-        line_number = line_number.saturating_add(1);
-        match read_line(line) {
-            Ok(None) => {}
-            Ok(Some(Statement::Stream(s))) => problem.add_stream(s, line_number)?,
-            Ok(Some(Statement::Gap(gap))) => {
-                if problem.gap_line != 0 {
-                    return Err(Turned::Unreadable(line_number, LineFault::SecondGap));
-                }
-                problem.gap = gap;
-                problem.gap_line = line_number;
-            }
-            Ok(Some(Statement::Plan)) => {
-                if problem.plan_line != 0 {
-                    return Err(Turned::Unreadable(line_number, LineFault::SecondPlan));
-                }
-                problem.plan_line = line_number;
-            }
-            Err(fault) => return Err(Turned::Unreadable(line_number, fault)),
-        }
-    }
-    Ok(problem)
 }

@@ -1,37 +1,58 @@
 // The program: reads a text from the file that is named, or from standard input, and prints the answer or why there is none.
+use std::alloc::AllocError;
 use std::env;
 use std::error::AnyError;
 use std::fs;
 use std::io;
 use std::io::Read;
-use std::rt::Files;
 use text::TurnedDisplay;
 
+const HELP: &str =
+    "wethumbal FILE [LINE]...   what has to be bought for the streams in FILE; each LINE is read behind it
+wethumbal                  the same for standard input, which is also FILE -
+
+A text is a line for each stream, from and to in the way it goes, and heat for each degree:
+
+    hot 180 60 3     # cooled from 180 to 60 degrees, 3 for each degree
+    cold 20 135 2    # warmed from 20 to 135 degrees, 2 for each degree
+    gap 10           # degrees that have to lie between what gives and what takes
+    plan             # print the transfers too
+
+What follows a # and blank lines are skipped. There are at most 64 streams. Temperatures and the
+gap are whole and come to 1000 together at most; heat for each degree is 1 to 1000000.
+
+It prints what the boiler gives, what goes to the river, and where nothing may pass:
+
+    boiler 20, river 30, nothing passes at 90
+
+and with `plan` a line for each transfer. A text that can't be used is answered on standard error
+by `turned away NUMBER at PLACE: ` and a sentence, with exit status 1.
+";
+
+const VERSION: &str = "wethumbal 0.1.0, proved with rattle-kit-8b logic 7f726aa041520687\n";
+
 // All bytes of the file that is named, or of standard input.
-fn input(rt: &LibcRuntime) -> io::Result<Vec<u8>> {
-    let mut args = env::args(rt)?;
-    let _program = args.next();
-    match args.next() {
-        Some(path) => fs::read(rt, path.as_str()),
-        None => {
-            let mut bytes = Vec::new(rt.alloc());
-            rt.stdin().read_to_end(&mut bytes)?;
-            Ok(bytes)
-        }
+fn input(rt: &LibcRuntime, name: &str) -> io::Result<Vec<u8>> {
+    if name != "-" {
+        return fs::read(rt, name);
     }
+    let mut bytes = Vec::new(rt.alloc());
+    rt.stdin().read_to_end(&mut bytes)?;
+    Ok(bytes)
 }
 
-fn main(rt: LibcRuntime) -> Result<(), AnyError> {
-    let bytes = match input(&rt) {
-        Ok(bytes) => bytes,
-        Err(e) => {
-            eprintln!(rt, "the text can't be had: {e}")?;
-            return Err("no text".into());
-        }
-    };
-    match text::answer(rt.alloc(), bytes.as_slice()) {
-        Ok(answer) => {
-            rt.print(answer)?;
+// One more line behind the text.
+fn add_line(text: &mut Vec<u8>, line: &str) -> Result<(), AllocError> {
+    if text.last().copied().unwrap_or(b'\n') != b'\n' {
+        text.push(b'\n')?;
+    }
+    text.extend_from_slice(line.as_bytes())
+}
+
+fn answer(rt: &LibcRuntime, text: &[u8]) -> Result<(), AnyError> {
+    match text::answer(rt.alloc(), text) {
+        Ok(printed) => {
+            rt.print(printed)?;
             Ok(())
         }
         Err(turned) => {
@@ -39,4 +60,32 @@ fn main(rt: LibcRuntime) -> Result<(), AnyError> {
             Err("turned away".into())
         }
     }
+}
+
+fn main(rt: LibcRuntime) -> Result<(), AnyError> {
+    let mut args = env::args(&rt)?;
+    let _program = args.next();
+    let name = match args.next() {
+        Some(name) => name,
+        None => String::from_str(rt.alloc(), "-")?,
+    };
+    if name.as_str() == "--help" {
+        rt.print(HELP)?;
+        return Ok(());
+    }
+    if name.as_str() == "--version" {
+        rt.print(VERSION)?;
+        return Ok(());
+    }
+    let mut text = match input(&rt, name.as_str()) {
+        Ok(bytes) => bytes,
+        Err(e) => {
+            eprintln!(rt, "the text can't be had: {e}")?;
+            return Err("no text".into());
+        }
+    };
+    for line in args {
+        add_line(&mut text, line.as_str())?;
+    }
+    answer(&rt, text.as_slice())
 }

@@ -1,0 +1,3 @@
+mod Finding
+pub mod Cutting
+mod Reading

@@ -1,0 +1,4 @@
+mod Threes
+mod Reading
+mod Cuts
+mod Numbers

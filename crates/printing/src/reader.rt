@@ -1,0 +1,70 @@
+// Reads a printed transfer back.
+ghost use mathlib.Core.Path.{_≡_};
+ghost use Rattle.std.specs.declared.option.Option.the-variants.{None, Some};
+ghost use Rattle.std.specs.Options.{Cases};
+ghost use Rattle.printing.specs.ReadBack.{cut, grown, number, place, reads-transfer};
+use plans::OUTSIDE;
+use plans::Transfer;
+
+// What stands before the first such text, and what after it.
+fn split_once<'a>(bytes: &'a [u8], text: &[u8]) -> Option<(&'a [u8], &'a [u8])>
+    ensures { λ r. ⌜ Cases r (cut (now (text .entry)) (now (bytes .entry)) ≡ None) (λ x. cut (now (text .entry)) (now (bytes .entry)) ≡ Some (now (x .0), now (x .1))) ⌝ }
+{
+    for i in 0..bytes.len() {
+        let rest = &bytes[i..];
+        if rest.starts_with(text) {
+            return Some((&bytes[..i], &rest[text.len()..]));
+        }
+    }
+    None
+}
+
+// One more digit, unless the byte is none, or the number grows beyond 32 bits.
+fn with_digit(n: u32, byte: u8) -> Option<u32>
+    ensures { λ r. ⌜ r ≡ grown n byte ⌝ }
+{
+    if !byte.is_ascii_digit() {
+        return None;
+    }
+    n.checked_mul(10)?.checked_add(u32::from(byte - b'0'))
+}
+
+// A number in digits, one or more.
+fn read_number(digits: &[u8]) -> Option<u32>
+    ensures { λ r. ⌜ r ≡ number (now (digits .entry)) ⌝ }
+{
+    if digits.is_empty() {
+        return None;
+    }
+    let mut n = 0;
+    for byte in digits {
+        n = with_digit(n, *byte)?;
+    }
+    Some(n)
+}
+
+// A degree, or the boiler or the river by its name.
+fn read_place(name: &[u8], bytes: &[u8]) -> Option<u32>
+    ensures { λ r. ⌜ r ≡ place (now (name .entry)) (now (bytes .entry)) ⌝ }
+{
+    if bytes == name {
+        return Some(OUTSIDE);
+    }
+    read_number(bytes)
+}
+
+// The transfer that a line tells, if it is such a line.
+pub fn read_transfer(line: &[u8]) -> Option<Transfer>
+    ensures { λ r. ⌜ r ≡ reads-transfer (now (line .entry)) ⌝ }
+{
+    let (giver, rest) = split_once(line, b" to ")?;
+    let (taker, rest) = split_once(rest, b", ")?;
+    let (digits, rest) = split_once(rest, b"\n")?;
+    if !rest.is_empty() {
+        return None;
+    }
+    let from = read_place(b"boiler", giver)?;
+    let to = read_place(b"river", taker)?;
+    let heat = read_number(digits)?;
+    Some(Transfer { from, to, heat })
+}
