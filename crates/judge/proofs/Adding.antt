@@ -14,22 +14,12 @@ use Rattle.streams.specs.declared.model.Stream.{Stream}
 use Rattle.streams.specs.Heat.{within, is, heat, load}
 use Rattle.streams.specs.Rules.{stream-in, streams-in}
 use Rattle.plans.specs.declared.transfers.Transfer.{Transfer}
+use Rattle.streams.proofs.Fours.{next, streams-more}
 use Rattle.judge.specs.Verdicts.{transfer-in, transfers-in, advised}
-
--- the number at place i of those that are left
-abbrev pub next : List ℕ → ℕ → ℕ
-next xs i = getD xs i 0
 
 -- what is left behind the first n
 abbrev pub behind-first : ℕ → List ℕ → List ℕ
 behind-first n xs = take (length xs - n) (drop n xs)
-
-streams-more : (xs : List ℕ) → 4 ≤ length xs → streams-in xs ≡ stream-in (next xs 0) (next xs 1) (next xs 2) (next xs 3) ∷ streams-in (drop 4 xs)
-streams-more [] l = absurd (omega arith)
-streams-more (a ∷ []) l = absurd (omega arith)
-streams-more (a ∷ (b ∷ [])) l = absurd (omega arith)
-streams-more (a ∷ (b ∷ (c ∷ []))) l = absurd (omega arith)
-streams-more (a ∷ (b ∷ (c ∷ (d ∷ xs)))) l = refl
 
 streams-none : (xs : List ℕ) → length xs < 4 → streams-in xs ≡ []
 streams-none [] l = refl

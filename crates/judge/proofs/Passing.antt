@@ -8,9 +8,10 @@ use lib.ListN.{length, drop}
 use Rattle.std.specs.declared.option.Option.the-variants.{Some, None}
 use Rattle.std.proofs.shelf.Lists.{take-rest, length-drop}
 use Rattle.plans.specs.declared.transfers.Transfer.{Transfer}
+use Rattle.streams.proofs.Fours.{next}
 use Rattle.judge.specs.Verdicts.{transfer-in, transfers-in}
 use Rattle.judge.specs.Pieces.{follows, disorder}
-use Rattle.judge.proofs.Adding.{next, behind-first, transfers-more, transfers-none}
+use Rattle.judge.proofs.Adding.{behind-first, transfers-more, transfers-none}
 
 -- so many are in order, the last of them from a to b: what is first out of order is so among those that are left
 pub record Passing (xs : List ℕ) (a b count : ℕ) (rest : List ℕ) : Type 0 where

@@ -19,15 +19,15 @@ enum Stop {
 fn is_blank(b: u8) -> bool
     ensures { λ r. ⌜ r ≡ passes Stop.Blank b ⌝ }
 {
-    b == 32 || b == 9 || b == 13
+    b == b' ' || b == b'\t' || b == b'\r'
 }
 
 fn stops(b: u8, stop: Stop) -> bool
     ensures { λ r. ⌜ r ≡ passes stop b ⌝ }
 {
     match stop {
-        Stop::Newline => b == 10,
-        Stop::Comment => b == 35,
+        Stop::Newline => b == b'\n',
+        Stop::Comment => b == b'#',
         Stop::Blank => is_blank(b),
         Stop::Word => !is_blank(b),
     }
@@ -89,10 +89,10 @@ pub fn number(word: &[u8]) -> Option<u32>
     }
     let mut value: u64 = 0;
     for b in word {
-        if *b < 48 || *b > 57 {
+        if *b < b'0' || *b > b'9' {
             return None;
         }
-        value = value * 10 + (*b - 48) as u64;
+        value = value * 10 + (*b - b'0') as u64;
         if value > u32::MAX as u64 {
             return None;
         }

@@ -10,7 +10,7 @@ use Rattle.streams.specs.declared.refusals.Refusal.{Refusal}
 use Rattle.streams.specs.Heat.{supply-of, demand-of}
 use Rattle.streams.specs.Refusals.{number-of}
 use Rattle.streams.specs.Rules.{streams-in, refusal-with-room}
-use Rattle.targets.specs.Found.{Found}
+use Rattle.targets.specs.Found.{Found-of}
 use Rattle.targets.specs.Plans.{Plan, Feasible, bought, wasted}
 use Rattle.plans.specs.declared.entry.Done.{Done}
 use Rattle.plans.specs.declared.entry.Done.the-variants.{Planned, Refused}
@@ -38,7 +38,7 @@ pub record Cheapest-plan (supply demand : ℕ → ℕ) (heating n : ℕ) (room r
 -- what is promised for each answer, by the named refusal and its place
 abbrev pub Answers : List ℕ → ℕ → (room : List ℕ) → Result Written Refusal → (room₁ : List ℕ) → Type 0
 Answers xs gap room (Ok w) room₁ =
-    (refusal-with-room xs gap room ≡ None) × Found (supply-of (streams-in xs)) (demand-of gap (streams-in xs)) (w .targets)
+    (refusal-with-room xs gap room ≡ None) × Found-of gap (streams-in xs) (w .targets)
     × Cheapest-plan (supply-of (streams-in xs)) (demand-of gap (streams-in xs)) (w .targets .heating) (w .transfers) room room₁
 Answers xs gap room (Err e) room₁ = (refusal-with-room xs gap room ≡ Some e) × (room₁ ≡ room)
 

@@ -46,7 +46,7 @@ plan-of ts = record { passes = moved ts; heating = moved ts outside; cooling = �
 abbrev pub Place : ℕ → Type 0
 Place a = (a < 1000) ⊎ (a ≡ outside)
 
--- something goes from a place to another, and not from the boiler to the river
+-- something goes from a place to a place, and not from the boiler to the river
 pub record Proper (t : Transfer) : Type 0 where
   pub something : 1 ≤ t .heat
   pub from-place : Place (t .from)

@@ -1,4 +1,4 @@
 mod Threes
 mod Reading
 mod Cuts
-mod Numbers
+mod Places

@@ -5,21 +5,23 @@ use mathlib.Core.List.{List, [], _∷_, _++_}
 use mathlib.Core.Logic.{inl, inr}
 use Prim.Native.Nat.{ℕ, _^_, _<_}
 use native.Mathlib.Omega.{arith}
+use borrow.Author.Needs.{needs}
 use lib.Chars.{codes}
 use lib.Dec.{eqb}
 use lib.ListN.{length}
-use Rattle.std.proofs.shelf.Decimals.{decimal-reads, digits-decimal}
+use Rattle.std.proofs.shelf.Decimals.{decimal-reads, decimal-some, digits-decimal, value-decimal}
 use Rattle.std.proofs.shelf.Equals.{sameBytes-decides}
 use Rattle.std.proofs.shelf.Lists.{take-at, drop-at}
-use Rattle.std.proofs.shelf.Numerals.{Numerals, numerals-by-value, tells-allDigits, digit-from-value}
+use Rattle.std.proofs.shelf.Numerals.{Numerals, numerals-by-fold, digit-from-value}
 use Rattle.std.proofs.shelf.Tests.{lt-ltb, ne-eqb, and-from, cond-true, cond-false, cases-eq, eq-eqb, eqb-false, and-left}
 use Rattle.std.specs.declared.option.Option.the-variants.{Some, None}
-use Rattle.std.specs.Reads.{Digits, value}
+use Rattle.std.specs.Reads.{Digits}
 use Rattle.std.specs.Written.{decimal}
-use Rattle.std.specs.shelf.Text.{allDigits, sameBytes}
+use Rattle.std.specs.shelf.Text.{sameBytes}
+use Rattle.lexing.specs.Lexing.{digits, value-after, some-bytes, number-in}
 use Rattle.plans.specs.Transfers.{outside}
 use Rattle.printing.specs.Printed.{ended, laid-out}
-use Rattle.printing.specs.ReadBack.{ahead, cut, number, place, reads-transfer, Reads-back}
+use Rattle.printing.specs.ReadBack.{ahead, cut, place, reads-transfer, Reads-back}
 
 -- no byte is c
 abbrev Clear : ℕ → List ℕ → Type 0
@@ -36,6 +38,10 @@ cut-at c text (x ∷ xs) ys h =
     let e : eqb c x ≡ false = ne-eqb c x (λ e. eqb-false x c (h .0) (sym e)) in
     cond-false _ _ _ (and-left (eqb c x) _ e) ∙ ap (ahead (x ∷ [])) (cut-at c text xs ys (h .1))
 
+some-of : (bs : List ℕ) → 0 < length bs → some-bytes bs ≡ true
+some-of [] l = absurd (omega arith)
+some-of (b ∷ bs) l = refl
+
 -- digits have no blank, no comma and no newline, and are no name
 digits-clear : (c : ℕ) (ds : List ℕ) → c < 48 → Digits 10 ds → Clear c ds
 digits-clear c [] l h = tt
@@ -50,18 +56,17 @@ no-name (d ∷ ds) c cs l some h =
     let e : eqb d c ≡ false = ne-eqb d c (λ e. omega (arith, i .1)) in
     rw e refl
 
-own : Numerals (λ ds. allDigits ds ≡ true) (value 10)
-own = numerals-by-value _ tells-allDigits
+own : Numerals (λ ds. digits ds ≡ true) (value-after 0)
+own = numerals-by-fold _ (search needs) value-after (search needs)
 
-number-decimal : (n : ℕ) → n < 2 ^ 32 → number (decimal n) ≡ Some n
-unfolding number
+number-decimal : (n : ℕ) → n < 2 ^ 32 → number-in (decimal n) ≡ Some n
+unfolding number-in
 number-decimal n l =
     let small : n < 2 ^ 64 = omega arith in
-    let d = decimal-reads n small in
-    let fits : value 10 (decimal n) < 2 ^ 32 = omega (arith, d .1) in
-    cond-true _ (Some (value 10 (decimal n))) None
-    (and-from _ _ (lt-ltb 0 (length (decimal n)) (d .0 .0)) (and-from _ _ (digits-decimal own n small) (lt-ltb (value 10 (decimal n)) (2 ^ 32) fits)))
-    ∙ ap (λ m. Some m) (d .1)
+    let v : value-after 0 (decimal n) ≡ n = value-decimal own n small in
+    cond-true _ (Some (value-after 0 (decimal n))) None
+    (and-from _ _ (some-of (decimal n) (decimal-some n small)) (and-from _ _ (digits-decimal own n small) (lt-ltb (value-after 0 (decimal n)) 4294967296 (omega arith))))
+    ∙ ap (λ m. Some m) v
 
 -- a part of a line that is read as n
 record Part (c : ℕ) (name bs : List ℕ) (n : ℕ) : Type 0 where
@@ -80,7 +85,7 @@ by-number c d ds n k m l =
     let r = decimal-reads n small in
     record {
       clear = decimal-clear c n k l;
-      is = cond-false _ (Some outside) (number (decimal n)) (no-name (decimal n) d ds m (r .0 .0) (r .0 .1)) ∙ number-decimal n l;
+      is = cond-false _ (Some outside) (number-in (decimal n)) (no-name (decimal n) d ds m (r .0 .0) (r .0 .1)) ∙ number-decimal n l;
     }
 
 by-boiler : Part 32 (codes "boiler") (codes "boiler") outside

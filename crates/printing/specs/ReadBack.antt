@@ -1,16 +1,15 @@
 -- How a printed transfer is read.
 use mathlib.Core.Path.{_≡_}
-use mathlib.Core.Bool.{Bool, cond, _&&_}
+use mathlib.Core.Bool.{Bool, cond}
 use mathlib.Core.List.{List, [], _∷_, _++_}
-use Prim.Native.Nat.{ℕ, _+_, _*_, _^_, _<_}
+use Prim.Native.Nat.{ℕ, _^_, _<_}
 use lib.Chars.{codes}
 use lib.Dec.{ltb}
 use lib.ListN.{length, take, drop}
 use Rattle.std.specs.declared.option.Option.{Option}
 use Rattle.std.specs.declared.option.Option.the-variants.{Some, None}
-use Rattle.std.specs.Reads.{value}
-use Rattle.std.specs.Text.{asciiDigit, digitValue}
-use Rattle.std.specs.shelf.Text.{allDigits, sameBytes}
+use Rattle.std.specs.shelf.Text.{sameBytes}
+use Rattle.lexing.specs.Lexing.{number-in}
 use Rattle.plans.specs.declared.transfers.Transfer.{Transfer}
 use Rattle.plans.specs.Transfers.{outside}
 use Rattle.printing.specs.Printed.{ended, transfer-line}
@@ -29,17 +28,9 @@ unfoldable pub cut : List ℕ → List ℕ → Option (List ℕ × List ℕ)
 cut text [] = None
 cut text (b ∷ bs) = cond (begins text (b ∷ bs)) (Some ([], drop (length text) (b ∷ bs))) (ahead (b ∷ []) (cut text bs))
 
--- one digit or more, and a number of 32 bits
-unfoldable pub number : List ℕ → Option ℕ
-number ds = cond (ltb 0 (length ds) && (allDigits ds && ltb (value 10 ds) (2 ^ 32))) (Some (value 10 ds)) None
-
--- the number with one more digit, if the byte is one and the number is still of 32 bits
-abbrev pub grown : ℕ → ℕ → Option ℕ
-grown n b = cond (asciiDigit b && ltb (n * 10 + digitValue b) (2 ^ 32)) (Some (n * 10 + digitValue b)) None
-
 -- a degree, or the boiler or the river by its name
 unfoldable pub place : List ℕ → List ℕ → Option ℕ
-place name bs = cond (sameBytes bs name) (Some outside) (number bs)
+place name bs = cond (sameBytes bs name) (Some outside) (number-in bs)
 
 -- what is read next, unless nothing could be read
 abbrev pub and-then : {X Y : Type 0} → Option X → (X → Option Y) → Option Y
@@ -55,7 +46,7 @@ reads-transfer bs =
     cond (ltb 0 (length (r .1))) None
     (and-then (place (codes "boiler") (p .0)) (λ a.
     and-then (place (codes "river") (q .0)) (λ b.
-    and-then (number (r .0)) (λ h. Some (record { from = a; to = b; heat = h }))))))))
+    and-then (number-in (r .0)) (λ h. Some (record { from = a; to = b; heat = h }))))))))
 
 -- each transfer that is printed is read as it was
 abbrev pub Reads-back : Type 0

@@ -2,7 +2,8 @@
 ghost use mathlib.Core.Path.{_≡_};
 ghost use Rattle.std.specs.declared.option.Option.the-variants.{None, Some};
 ghost use Rattle.std.specs.Options.{Cases};
-ghost use Rattle.printing.specs.ReadBack.{cut, grown, number, place, reads-transfer};
+ghost use Rattle.printing.specs.ReadBack.{cut, place, reads-transfer};
+use lexing::number;
 use plans::OUTSIDE;
 use plans::Transfer;
 
@@ -19,30 +20,6 @@ fn split_once<'a>(bytes: &'a [u8], text: &[u8]) -> Option<(&'a [u8], &'a [u8])>
     None
 }
 
-// One more digit, unless the byte is none, or the number grows beyond 32 bits.
-fn with_digit(n: u32, byte: u8) -> Option<u32>
-    ensures { λ r. ⌜ r ≡ grown n byte ⌝ }
-{
-    if !byte.is_ascii_digit() {
-        return None;
-    }
-    n.checked_mul(10)?.checked_add(u32::from(byte - b'0'))
-}
-
-// A number in digits, one or more.
-fn read_number(digits: &[u8]) -> Option<u32>
-    ensures { λ r. ⌜ r ≡ number (now (digits .entry)) ⌝ }
-{
-    if digits.is_empty() {
-        return None;
-    }
-    let mut n = 0;
-    for byte in digits {
-        n = with_digit(n, *byte)?;
-    }
-    Some(n)
-}
-
 // A degree, or the boiler or the river by its name.
 fn read_place(name: &[u8], bytes: &[u8]) -> Option<u32>
     ensures { λ r. ⌜ r ≡ place (now (name .entry)) (now (bytes .entry)) ⌝ }
@@ -50,7 +27,7 @@ fn read_place(name: &[u8], bytes: &[u8]) -> Option<u32>
     if bytes == name {
         return Some(OUTSIDE);
     }
-    read_number(bytes)
+    number(bytes)
 }
 
 // The transfer that a line tells, if it is such a line.
@@ -65,6 +42,6 @@ pub fn read_transfer(line: &[u8]) -> Option<Transfer>
     }
     let from = read_place(b"boiler", giver)?;
     let to = read_place(b"river", taker)?;
-    let heat = read_number(digits)?;
+    let heat = number(digits)?;
     Some(Transfer { from, to, heat })
 }

@@ -24,7 +24,7 @@ use Rattle.streams.specs.Rules.{stream-in, streams-in, when, first, stream-ref
 abbrev pub next : List ℕ → ℕ → ℕ
 next xs i = getD xs i 0
 
-streams-more : (xs : List ℕ) → 4 ≤ length xs → streams-in xs ≡ stream-in (next xs 0) (next xs 1) (next xs 2) (next xs 3) ∷ streams-in (drop 4 xs)
+pub streams-more : (xs : List ℕ) → 4 ≤ length xs → streams-in xs ≡ stream-in (next xs 0) (next xs 1) (next xs 2) (next xs 3) ∷ streams-in (drop 4 xs)
 streams-more [] l = absurd (omega arith)
 streams-more (a ∷ []) l = absurd (omega arith)
 streams-more (a ∷ (b ∷ [])) l = absurd (omega arith)

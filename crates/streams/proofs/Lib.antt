@@ -1,4 +1,4 @@
-mod Fours
+pub mod Fours
 mod Loading
 pub mod Sums
 pub mod Laws

@@ -4,11 +4,10 @@ ghost use Prim.Native.Nat.{_≤_};
 ghost use Rattle.streams.specs.Rules.{read-stream};
 ghost use Rattle.streams.specs.Checked.{Checked, Checked-with-room};
 use crate::model::Kind;
+use crate::model::MOST_STREAMS;
 use crate::model::Stream;
 use crate::refusals::Refusal;
 use crate::table::StreamTable;
-
-const MOST_STREAMS: usize = 64;
 
 const MOST_TEMPERATURE: u32 = 1000;
 

@@ -2,12 +2,13 @@
 ghost use Prim.Native.Nat.{ℕ, _<_, _≤_};
 ghost use lib.ListN.{getD};
 ghost use Rattle.streams.specs.Rules.{Sound, blank};
+use crate::model::MOST_STREAMS;
 use crate::model::Stream;
 
 // Up to 64 streams, the first `count` of `streams`, with the gap that they are to keep.
 #[derive(Clone, Copy)]
 pub struct StreamTable {
-    pub(crate) streams: [Stream; 64],
+    pub(crate) streams: [Stream; MOST_STREAMS],
     pub(crate) count: usize,
     pub(crate) gap: u32,
     ghost few: { count ≤ 64 },

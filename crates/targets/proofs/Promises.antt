@@ -18,7 +18,7 @@ use Rattle.targets.specs.Found.{Found, Found-for, Found-of}
 use Rattle.targets.proofs.Largest.{most-ext}
 use Rattle.targets.proofs.Balance.{accounted, closes}
 use Rattle.targets.proofs.Optimal.{target-least}
-use Rattle.targets.proofs.Gaps.{keeps-gap}
+use Rattle.targets.proofs.Gaps.{keeps-gap, smaller-gap}
 
 pub found : (h c : ℕ → ℕ) (t : Targets) → t .heating ≡ target 1000 h c → sum-below 1000 h + t .heating ≡ sum-below 1000 c + t .cooling →
     Lowest 1000 (deficit 1000 h c) (t .heating) (t .pinch) → Found h c t
@@ -54,11 +54,12 @@ module _ (h c h₁ c₁ : ℕ → ℕ) (eh : (d : ℕ) → d < 1000 → h d ≡ 
 pub found-for : (gap : ℕ) (ss : List Stream) (l : Loads) (t : Targets) → Loads-of gap ss l → Found (supply-in l) (demand-in l) t → Found-for gap ss t
 found-for gap ss l t e f = found-like (supply-in l) (demand-in l) (supply-of ss) (demand-of gap ss) (e .supply-is) (e .demand-is) t f
 
-pub found-of : (s : StreamTable) (l : Loads) (t : Targets) → Loaded s l → Found (supply-in l) (demand-in l) t → Found-of s t
+pub found-of : (s : StreamTable) (l : Loads) (t : Targets) → Loaded s l → Found (supply-in l) (demand-in l) t → Found-of (s .gap) (listed s) t
 found-of s l t loaded f =
     record {
       found = found-for (s .gap) (listed s) l t (loaded .exact) f;
       any-order = λ ss sh. found-for (s .gap) ss l t (loaded .any-order ss sh) f;
       any-cut = λ ss cut. found-for (s .gap) ss l t (loaded .any-cut ss cut) f;
       keeps-gap = keeps-gap 1000 (s .gap) (listed s);
+      smaller-gap = smaller-gap;
     }

@@ -46,7 +46,7 @@ pub record Closed (top d : ℕ) (p : Plan) : Type 0 where
   pub none-wasted : (a : ℕ) → d ≤ a → a < top → p .cooling a ≡ 0
 
 -- Wherever demand from d up is supply from there up and n, every feasible plan that buys no more than n is closed at d.
--- It would not do to ask only that the deficit at d is n: supply 1 in degree 1 and demand 1 in degree 0 lack nothing from degree 1 up, and
+-- It would not do to ask only that the deficit at d is n: a supply of 1 in degree 1 and a demand of 1 in degree 0 lack nothing from degree 1 up, and
 -- nothing has to be bought, yet all heat passes across degree 1. There demand from degree 1 up is less than supply, which the cut deficit hides.
 abbrev pub Closes : ℕ → (supply demand : ℕ → ℕ) → ℕ → Type 0
 Closes top supply demand n =

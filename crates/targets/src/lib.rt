@@ -1,9 +1,9 @@
 // Targets: the least heat that has to be bought, what then goes to the river, and the degree across which nothing may pass.
 mod cascade;
 
+ghost use Rattle.streams.specs.Checked.{listed};
 ghost use Rattle.streams.specs.Loaded.{supply-in, demand-in};
 ghost use Rattle.targets.specs.Found.{Found, Found-of};
-ghost use Rattle.targets.specs.Kept.{Smaller-gap};
 use cascade::Descent;
 use streams::DEGREES;
 use streams::Loads;
@@ -41,8 +41,7 @@ impl Targets {
 
     // The same for streams that were checked.
     pub fn of_streams(table: &StreamTable) -> Targets
-        ensures found { λ r. ⌜ Found-of (now (table .entry)) r ⌝ }
-        ensures smaller_gap { λ _. ⌜ Smaller-gap ⌝ }
+        ensures { λ r. ⌜ Found-of (now (table .entry) .gap) (listed (now (table .entry))) r ⌝ }
     {
         Targets::of(&table.loads())
     }

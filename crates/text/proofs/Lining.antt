@@ -58,12 +58,12 @@ module _ (a : Asked) (i : ℕ) (l : List ℕ) (ls : List (List ℕ)) where
 
   module _ (said : Option Statement) (e : statement (words (uncommented l)) ≡ Some said) where
     -- one that asks what was asked
-    pub line-refused : after a said ≡ None → asked-from a i (l ∷ ls) ≡ Err i
+    pub line-refused : after i a said ≡ None → asked-from a i (l ∷ ls) ≡ Err i
     unfolding asked-from
     line-refused q = rw (e, q) refl
 
     -- and one that is noted
-    pub line-noted : (b : Asked) → after a said ≡ Some b → asked-from a i (l ∷ ls) ≡ asked-from b (i + 1) ls
+    pub line-noted : (b : Asked) → after i a said ≡ Some b → asked-from a i (l ∷ ls) ≡ asked-from b (i + 1) ls
     unfolding asked-from
     line-noted b q = rw (e, q) refl
 
@@ -85,7 +85,7 @@ some-line text line None l = ([], l)
 some-line text line (Some x) l = (lines (x .now), l)
 
 -- a line that is not noted ends the reading
-pub not-noted : (text : List ℕ) (p : Problem) (said : Option Statement) (place : ℕ) (e : Turned) (q : Problem) → Noted p said place (Err e) q → (after (asked-by p) said ≡ None → asked-in text ≡ Err place) → Read text (Err e)
+pub not-noted : (text : List ℕ) (p : Problem) (said : Option Statement) (place : ℕ) (e : Turned) (q : Problem) → Noted p said place (Err e) q → (after place (asked-by p) said ≡ None → asked-in text ≡ Err place) → Read text (Err e)
 not-noted text p said place (Unreadable i f) q n r = r (n .0) ∙ ap Err (sym (n .1))
-not-noted text p said place (Refused e i) q n r = n
+not-noted text p said place (Refused e i l) q n r = n
 not-noted text p said place NoMemory q n r = tt

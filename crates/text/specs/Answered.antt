@@ -17,7 +17,7 @@ use Rattle.plans.specs.Promise.{Answers}
 use Rattle.printing.specs.Printed.{first-line, transfer-lines}
 use Rattle.text.specs.declared.turned.Turned.{Turned}
 use Rattle.text.specs.declared.turned.Turned.the-variants.{Unreadable, Refused, NoMemory}
-use Rattle.text.specs.Asked.{Asked, asked-in}
+use Rattle.text.specs.Asked.{Asked, asked-in, line-of}
 
 -- a room of noughts
 abbrev pub empty-room : List ℕ
@@ -32,9 +32,9 @@ pub record Printed-for (text bytes : List ℕ) : Type 0 where
   pub answers : Answers (asked .numbers) (valueOr (asked .gap) 0) empty-room (Ok written) room
   pub bytes-are : bytes ≡ first-line (written .targets) ++ cond (asked .plan) (transfer-lines (take (3 * written .transfers) room)) []
 
--- and what is refused is refused by the first line that can't be read, or by the first rule that applies to what is asked
+-- and what is refused is refused by the first line that can't be read, or by the first rule that applies to what is asked, with the line that it speaks of
 abbrev pub Answered : List ℕ → Result (String Global) Turned → Type 0
 Answered text (Ok s) = Printed-for text (string-bytes s)
 Answered text (Err (Unreadable i f)) = asked-in text ≡ Err i
-Answered text (Err (Refused e i)) = (a : Asked) × (asked-in text ≡ Ok a) × (refusal-with-room (a .numbers) (valueOr (a .gap) 0) empty-room ≡ Some e)
+Answered text (Err (Refused e i l)) = (a : Asked) × (asked-in text ≡ Ok a) × (refusal-with-room (a .numbers) (valueOr (a .gap) 0) empty-room ≡ Some e) × (i ≡ line-of a e)
 Answered text (Err NoMemory) = Unit {0}

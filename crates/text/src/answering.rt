@@ -3,10 +3,37 @@ ghost use Rattle.text.specs.Answered.{Answered};
 use crate::reading::read_problem;
 use crate::turned::Turned;
 use crate::turned::TurnedFromAlloc;
+use lexing::before_comment;
+use lexing::split_line;
 use plans::write_plan;
 use printing::first_line;
 use printing::push_transfers;
 use std::alloc::Global;
+
+// A line without the blanks at its end.
+fn trimmed(line: &[u8]) -> &[u8] {
+    let mut end = line.len();
+    while end > 0 {
+        if !line[end - 1].is_ascii_whitespace() {
+            break;
+        }
+        end -= 1;
+    }
+    &line[0..end]
+}
+
+// The line at a place, without its comment, to be shown.
+fn line_at(text: &[u8], place: usize) -> &[u8] {
+    let mut rest = text;
+    for _ in 0..place {
+        let (_, Some(more)) = split_line(rest) else {
+            break;
+        };
+        rest = more;
+    }
+    let (line, _) = split_line(rest);
+    trimmed(before_comment(line))
+}
 
 // What is printed for a text, or why it is turned away.
 pub fn answer(heap: Global, text: &[u8]) -> Result<String, Turned<'_>>
@@ -23,6 +50,9 @@ pub fn answer(heap: Global, text: &[u8]) -> Result<String, Turned<'_>>
             }
             Ok(out)
         }
-        Err(refusal) => Err(Turned::Refused(refusal, problem.place_of(refusal))),
+        Err(refusal) => {
+            let place = problem.place_of(refusal);
+            Err(Turned::Refused(refusal, place, line_at(text, place)))
+        }
     }
 }

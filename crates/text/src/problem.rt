@@ -1,6 +1,8 @@
 // What a text asks, as it is read so far.
 ghost use mathlib.Core.Path.{_≡_};
-ghost use Rattle.text.specs.Asked.{four, asked-by, nothing-asked, Noted};
+ghost use lib.ListN.{getD};
+ghost use Rattle.std.specs.Of.Vec.{vec-items};
+ghost use Rattle.text.specs.Asked.{four, asked-by, nothing-asked, line-of, Noted};
 use crate::turned::Turned;
 use crate::turned::TurnedFromAlloc;
 use crate::turned::TurnedFromRefused;
@@ -77,14 +79,30 @@ impl Problem {
     }
 
     // The place of the line that a refusal speaks of.
-    pub(crate) fn place_of(&self, refusal: Refusal) -> usize {
+    pub(crate) fn place_of(&self, refusal: Refusal) -> usize
+        ensures { λ r. ⌜ r ≡ line-of (asked-by (now (self .entry))) refusal ⌝ }
+    {
         match refusal {
             Refusal::GapTooWide => self.gap_place,
-            Refusal::TooManyStreams(_) => self.stream_places.get(64).copied().unwrap_or(0),
-            _ => self.stream_places
-                .get(refusal.place())
-                .copied()
-                .unwrap_or(0),
+            Refusal::TooManyStreams(_) => self.place_of_stream(64),
+            Refusal::NotInFours(i)
+            | Refusal::UnknownKind(i)
+            | Refusal::LowNotBelowHigh(i)
+            | Refusal::TooWarm(i)
+            | Refusal::RateOutOfRange(i)
+            | Refusal::RoomTooSmall(i)
+            | Refusal::Unreadable(i) => self.place_of_stream(i),
+        }
+    }
+
+    // The place of a stream's line, or 0 where there is no such stream.
+    fn place_of_stream(&self, i: usize) -> usize
+        ensures { λ r. ⌜ r ≡ getD (vec-items (now (self .entry) .«stream_places»)) i 0 ⌝ }
+    {
+        if i < self.stream_places.len() {
+            self.stream_places[i]
+        } else {
+            0
         }
     }
 }

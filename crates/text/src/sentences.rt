@@ -43,24 +43,29 @@ fn of_line(fault: LineFault<'_>) -> (&'static str, &[u8], &'static str) {
             "' where a whole number below 4294967296 is wanted",
         ),
         LineFault::WordTooMany(word) => ("goes on with '", word, "', where nothing more is wanted"),
-        LineFault::SecondGap => ("gives the gap a second time", b"", ""),
-        LineFault::SecondPlan => ("asks for the plan a second time", b"", ""),
+        LineFault::SecondGap => ("gives the gap a second time, and once is enough", b"", ""),
+        LineFault::SecondPlan => (
+            "asks for the plan a second time, and once is enough",
+            b"",
+            "",
+        ),
     }
 }
 
+// What stands behind a line that breaks a rule.
 fn of_rule(refusal: Refusal) -> &'static str {
     match refusal {
-        Refusal::TooManyStreams(_) => "has one stream more than the 64 that are taken",
-        Refusal::GapTooWide => "has a gap above 1000",
+        Refusal::TooManyStreams(_) => "') is one stream more than the 64 that are taken",
+        Refusal::GapTooWide => "') has a gap above 1000, and 0 to 1000 is allowed",
         Refusal::LowNotBelowHigh(_) =>
-            "runs the wrong way: a hot stream is written from its higher temperature down, a cold one from its lower one up",
+            "') runs the wrong way or has no width: a hot stream is written from its higher temperature down, a cold one from its lower one up",
         Refusal::TooWarm(_) =>
-            "is too warm: the higher temperature and the gap may come to 1000 together",
-        Refusal::RateOutOfRange(_) => "has heat for each degree that isn't 1 to 1000000",
+            "') is too warm: the higher temperature and the gap may come to 1000 together at most",
+        Refusal::RateOutOfRange(_) => "') has heat for each degree that isn't 1 to 1000000",
         Refusal::NotInFours(_)
         | Refusal::UnknownKind(_)
         | Refusal::RoomTooSmall(_)
-        | Refusal::Unreadable(_) => "can't be used",
+        | Refusal::Unreadable(_) => "') can't be used",
     }
 }
 
@@ -72,10 +77,10 @@ pub impl fmt::Display for Turned<'_> as TurnedDisplay {
                 *place,
                 of_line(*fault),
             ),
-            Turned::Refused(refusal, place) => (
+            Turned::Refused(refusal, place, line) => (
                 *refusal,
                 *place,
-                (of_rule(*refusal), b"".as_slice(), ""),
+                ("('", *line, of_rule(*refusal)),
             ),
             Turned::NoMemory => return f.write_str("there is not enough memory for this text"),
         };

@@ -6,12 +6,12 @@ use std::alloc::AllocError;
 use std::alloc::Refused;
 use streams::Refusal;
 
-// A line that can't be read, by its place from 0; a rule that the streams or the gap break, with the line that it speaks of; or want of memory,
+// A line that can't be read, by its place from 0; a rule that the streams or the gap break, with the line that it speaks of, by its place and its bytes; or want of memory,
 // which is no fault of the text.
 #[derive(Clone, Copy)]
 pub enum Turned<'a> {
     Unreadable(usize, LineFault<'a>),
-    Refused(Refusal, usize),
+    Refused(Refusal, usize, &'a [u8]),
     NoMemory,
 }
 

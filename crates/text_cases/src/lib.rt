@@ -188,11 +188,11 @@ mod tests {
             ),
             (
                 "gap 1\ngap 1",
-                "turned away 4 at 1: line 2 gives the gap a second time",
+                "turned away 4 at 1: line 2 gives the gap a second time, and once is enough",
             ),
             (
                 "plan\n\nplan",
-                "turned away 4 at 2: line 3 asks for the plan a second time",
+                "turned away 4 at 2: line 3 asks for the plan a second time, and once is enough",
             ),
             (
                 "hot 60 180 3\nnonsense",
@@ -211,39 +211,39 @@ mod tests {
         let table = [
             (
                 "# a\nhot 60 180 3",
-                "turned away 2 at 0: line 2 runs the wrong way: a hot stream is written from its higher temperature down, a cold one from its lower one up",
+                "turned away 2 at 0: line 2 ('hot 60 180 3') runs the wrong way or has no width: a hot stream is written from its higher temperature down, a cold one from its lower one up",
             ),
             (
                 "cold 55 45 2",
-                "turned away 2 at 0: line 1 runs the wrong way: a hot stream is written from its higher temperature down, a cold one from its lower one up",
+                "turned away 2 at 0: line 1 ('cold 55 45 2') runs the wrong way or has no width: a hot stream is written from its higher temperature down, a cold one from its lower one up",
             ),
             (
                 "hot 50 50 2",
-                "turned away 2 at 0: line 1 runs the wrong way: a hot stream is written from its higher temperature down, a cold one from its lower one up",
+                "turned away 2 at 0: line 1 ('hot 50 50 2') runs the wrong way or has no width: a hot stream is written from its higher temperature down, a cold one from its lower one up",
             ),
             (
                 "hot 2 1 1\ngap 1001",
-                "turned away 2 at 0: line 2 has a gap above 1000",
+                "turned away 2 at 0: line 2 ('gap 1001') has a gap above 1000, and 0 to 1000 is allowed",
             ),
             (
                 "gap 4294967295",
-                "turned away 2 at 0: line 1 has a gap above 1000",
+                "turned away 2 at 0: line 1 ('gap 4294967295') has a gap above 1000, and 0 to 1000 is allowed",
             ),
             (
                 "hot 2 1 1\n\nhot 1000 1 1\ngap 1",
-                "turned away 2 at 1: line 3 is too warm: the higher temperature and the gap may come to 1000 together",
+                "turned away 2 at 1: line 3 ('hot 1000 1 1') is too warm: the higher temperature and the gap may come to 1000 together at most",
             ),
             (
                 "cold 0 1001 1",
-                "turned away 2 at 0: line 1 is too warm: the higher temperature and the gap may come to 1000 together",
+                "turned away 2 at 0: line 1 ('cold 0 1001 1') is too warm: the higher temperature and the gap may come to 1000 together at most",
             ),
             (
                 "hot 2 1 0",
-                "turned away 2 at 0: line 1 has heat for each degree that isn't 1 to 1000000",
+                "turned away 2 at 0: line 1 ('hot 2 1 0') has heat for each degree that isn't 1 to 1000000",
             ),
             (
                 "hot 2 1 1000001",
-                "turned away 2 at 0: line 1 has heat for each degree that isn't 1 to 1000000",
+                "turned away 2 at 0: line 1 ('hot 2 1 1000001') has heat for each degree that isn't 1 to 1000000",
             ),
         ];
         for (text, wanted) in table {
@@ -265,7 +265,7 @@ mod tests {
         text.push_str("# one more\nhot 2 1 5\n")?;
         check_eq(
             said(rt.alloc(), text.as_bytes())?.as_str(),
-            "turned away 1 at 260: line 66 has one stream more than the 64 that are taken",
+            "turned away 1 at 260: line 66 ('hot 2 1 5') is one stream more than the 64 that are taken",
         )
     }
 

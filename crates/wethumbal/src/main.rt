@@ -7,26 +7,29 @@ use std::io;
 use std::io::Read;
 use text::TurnedDisplay;
 
-const HELP: &str =
-    "wethumbal FILE [LINE]...   what has to be bought for the streams in FILE; each LINE is read behind it
-wethumbal                  the same for standard input, which is also FILE -
+const HELP: &str = "wethumbal FILE [LINE]...  what has to be bought for the streams in FILE;
+                          each LINE is read behind it
+wethumbal                 the same for standard input, which is also FILE -
 
-A text is a line for each stream, from and to in the way it goes, and heat for each degree:
+A text has a line for each stream, from and to in the way it goes, and heat
+for each degree:
 
     hot 180 60 3     # cooled from 180 to 60 degrees, 3 for each degree
     cold 20 135 2    # warmed from 20 to 135 degrees, 2 for each degree
-    gap 10           # degrees that have to lie between what gives and what takes
+    gap 10           # degrees between what gives and what takes, at least
     plan             # print the transfers too
 
-What follows a # and blank lines are skipped. There are at most 64 streams. Temperatures and the
-gap are whole and come to 1000 together at most; heat for each degree is 1 to 1000000.
+What follows a # and blank lines are skipped. There are at most 64 streams;
+the higher temperature of each and the gap come to 1000 together at most;
+heat for each degree is 1 to 1000000.
 
-It prints what the boiler gives, what goes to the river, and where nothing may pass:
+It prints what the boiler gives, what goes to the river, and where nothing
+may pass, and with `plan` a line for each transfer:
 
     boiler 20, river 30, nothing passes at 90
 
-and with `plan` a line for each transfer. A text that can't be used is answered on standard error
-by `turned away NUMBER at PLACE: ` and a sentence, with exit status 1.
+A text that can't be used is answered on standard error by
+`turned away NUMBER at PLACE: ` and a sentence, with exit status 1.
 ";
 
 const VERSION: &str = "wethumbal 0.1.0, proved with rattle-kit-8b logic 7f726aa041520687\n";
@@ -49,21 +52,23 @@ fn add_line(text: &mut Vec<u8>, line: &str) -> Result<(), AllocError> {
     text.extend_from_slice(line.as_bytes())
 }
 
-fn answer(rt: &LibcRuntime, text: &[u8]) -> Result<(), AnyError> {
+// Prints the answer, or why there is none, and says whether there is one.
+fn answer(rt: &LibcRuntime, text: &[u8]) -> io::Result<bool> {
     match text::answer(rt.alloc(), text) {
         Ok(printed) => {
             rt.print(printed)?;
-            Ok(())
+            Ok(true)
         }
         Err(turned) => {
             eprintln!(rt, "{turned}")?;
-            Err("turned away".into())
+            Ok(false)
         }
     }
 }
 
-fn main(rt: LibcRuntime) -> Result<(), AnyError> {
-    let mut args = env::args(&rt)?;
+// Does what the words of the command say, and says whether there is an answer.
+fn run(rt: &LibcRuntime) -> Result<bool, AnyError> {
+    let mut args = env::args(rt)?;
     let _program = args.next();
     let name = match args.next() {
         Some(name) => name,
@@ -71,21 +76,26 @@ fn main(rt: LibcRuntime) -> Result<(), AnyError> {
     };
     if name.as_str() == "--help" {
         rt.print(HELP)?;
-        return Ok(());
+        return Ok(true);
     }
     if name.as_str() == "--version" {
         rt.print(VERSION)?;
-        return Ok(());
+        return Ok(true);
     }
-    let mut text = match input(&rt, name.as_str()) {
-        Ok(bytes) => bytes,
-        Err(e) => {
-            eprintln!(rt, "the text can't be had: {e}")?;
-            return Err("no text".into());
-        }
-    };
+    let mut text = input(rt, name.as_str())?;
     for line in args {
         add_line(&mut text, line.as_str())?;
     }
-    answer(&rt, text.as_slice())
+    Ok(answer(rt, text.as_slice())?)
+}
+
+fn main(rt: LibcRuntime) -> Result<(), AnyError> {
+    match run(&rt) {
+        Ok(true) => Ok(()),
+        Ok(false) => Err("turned away".into()),
+        Err(e) => {
+            eprintln!(rt, "wethumbal: there is no answer: {e}")?;
+            Err(e)
+        }
+    }
 }

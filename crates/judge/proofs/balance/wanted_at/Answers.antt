@@ -4,7 +4,8 @@ use borrow.Author.Tests.{ltb-false, ltb-true}
 use lib.Dec.{eqb}
 use lib.ListN.{length}
 use Rattle.streams.specs.declared.model.Kind.the-variants.{Hot, Cold}
-use Rattle.judge.proofs.Adding.{next, wanting-more, wanting-all, hot-is, cold-is}
+use Rattle.streams.proofs.Fours.{next}
+use Rattle.judge.proofs.Adding.{wanting-more, wanting-all, hot-is, cold-is}
 use Rattle.judge.proofs.balance.wanted_at.Needs as need
 
 pub loop-rest-again : need.loop-rest-again

@@ -3,7 +3,8 @@ use native.Mathlib.Omega.{arith}
 use Rattle.streams.proofs.Taken.{room-enough}
 use Rattle.streams.specs.Loaded.{Loads-of}
 use Rattle.streams.specs.Rules.{streams-in}
-use Rattle.targets.proofs.Promises.{found-for}
+use Rattle.targets.specs.Found.{Found-of}
+use Rattle.targets.proofs.Promises.{found-of}
 use Rattle.plans.proofs.Promised.{cheapest-plan}
 use Rattle.plans.proofs.entry.write_plan.Needs as need
 
@@ -15,5 +16,6 @@ pub returns : need.returns
 returns c =
     let checked = c .in-Continue-table .ensures tt in
     let exact : Loads-of (c .args .gap) (streams-in (c .args .streams .now)) (c .loads-loads .result) = rw (checked .1, checked .2) at (c .loads-loads .ensures .exact) in
-    let found = found-for _ _ _ _ exact (c .of-targets .ensures) in
-    (checked .0, found, cheapest-plan _ _ _ _ _ _ _ exact found (c .lay-out-transfers .ensures))
+    let found : Found-of (c .args .gap) (streams-in (c .args .streams .now)) (c .of-targets .result)
+    = rw (checked .1, checked .2) at (found-of (c .in-Continue-table .table) _ _ (c .loads-loads .ensures) (c .of-targets .ensures)) in
+    (checked .0, found, cheapest-plan _ _ _ _ _ _ _ exact (found .found) (c .lay-out-transfers .ensures))
