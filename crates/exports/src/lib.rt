@@ -1,4 +1,6 @@
 // The planner for callers in other languages: one function on numbers and slices, which asks nothing of them beyond their types.
+#![tactic(auto)]
+
 ghost use Rattle.exports.specs.Outcomes.{Promised};
 
 use plans::{Done, plan};

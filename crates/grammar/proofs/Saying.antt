@@ -1,9 +1,6 @@
 -- What a line says, word by word.
-use Rattle.std.proofs.Common.{◌≡◌, ℕ, Bool, List, [], ◌∷◌, Some, None, Decides, Option, sym, refl, ap, ◌∙◌, arith}
-use Rattle.std.specs.Cmp.Lexicographic.{Matches}
+use Rattle.std.proofs.Common.{◌≡◌, ℕ, Bool, List, [], ◌∷◌, Some, None, Option, refl, ap, arith}
 use Rattle.std.specs.Str.{bytes_eq}
-use Rattle.std.proofs.lemmas.Slice.Eq.{slice_eq-Decides, bytes_eq-Decides}
-use Rattle.std.proofs.lemmas.Bool.Decides.{same_from_decides, Decides-eqb}
 use Rattle.streams.specs.declared.model.Kind.{Kind}
 use Rattle.streams.specs.declared.model.Kind.TheVariants.{Hot, Cold}
 use Rattle.grammar.specs.declared.keywords.Keyword.{Keyword}
@@ -12,8 +9,8 @@ use Rattle.grammar.specs.Keywords.{keyword_in}
 use Rattle.grammar.specs.Statements.{Words, then, number_and_rest, done, stream_of, stream_said, gap_said, said, statement}
 
 -- two words that are compared
-pub compared : (w k : List ℕ) (r t : Bool) → Matches (λ (a b : ℕ) (u : Bool). Decides u (a ≡ b)) w k r → r ≡ t → bytes_eq w k ≡ t
-compared w k r t m e = same_from_decides (bytes_eq w k) r (bytes_eq-Decides w k) (slice_eq-Decides Decides-eqb w k r m) ∙ e
+pub compared : (w k s : List ℕ) (r t : Bool) → s ≡ k → r ≡ bytes_eq w s → r ≡ t → bytes_eq w k ≡ t
+compared w k s r t same m e = cc
 
 pub then_none : {X Y : Type 0} (o : Option X) (f : X → Option Y) → o ≡ None → then o f ≡ None
 then_none o f e = rw e refl

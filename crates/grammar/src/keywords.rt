@@ -13,13 +13,13 @@ pub(crate) enum Keyword {
 pub(crate) fn find_keyword(word: &[u8]) -> Option<Keyword>
     ensures { result ≡ keyword_in word.now }
 {
-    if word == b"hot" {
+    if word == b"hot".as_slice() {
         Some(Keyword::Hot)
-    } else if word == b"cold" {
+    } else if word == b"cold".as_slice() {
         Some(Keyword::Cold)
-    } else if word == b"gap" {
+    } else if word == b"gap".as_slice() {
         Some(Keyword::Gap)
-    } else if word == b"plan" {
+    } else if word == b"plan".as_slice() {
         Some(Keyword::Plan)
     } else {
         None

@@ -1,4 +1,6 @@
 // Grammar: what one line of a text says.
+#![tactic(auto)]
+
 mod keywords;
 mod statements;
 

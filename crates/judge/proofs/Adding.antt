@@ -1,12 +1,12 @@
 -- Sums over streams and transfers, from numbers in fours and in threes.
-use Rattle.std.proofs.Common.{◌≡◌, ℕ, ◌+◌, ◌-◌, ◌*◌, ◌/◌, ◌^◌, ◌<◌, ◌≤◌, min, Bool, true, false, cond, not, ◌&&◌, eqb, List, [], ◌∷◌, length, get_or, take, drop, refl, ap, arith}
+use Rattle.std.proofs.Common.{◌≡◌, ℕ, ◌+◌, ◌-◌, ◌*◌, ◌/◌, ◌^◌, ◌<◌, ◌≤◌, min, Bool, true, false, cond, not, ◌&&◌, eqb, List, [], ◌∷◌, length, take, drop, refl, ap, arith}
 use Rattle.plans.specs.Transfers.{sent, got}
 use Rattle.std.proofs.lemmas.List.{take_rest, length-drop, length-take}
 use Rattle.streams.specs.declared.model.Kind.{Kind}
 use Rattle.streams.specs.declared.model.Kind.TheVariants.{Hot, Cold}
 use Rattle.streams.specs.declared.model.Stream.{Stream}
 use Rattle.streams.specs.Heat.{within, is, heat, load}
-use Rattle.streams.specs.Rules.{stream_in, streams_in}
+use Rattle.streams.specs.Rules.{streams_in}
 use Rattle.plans.specs.declared.transfers.Transfer.{Transfer}
 use Rattle.streams.proofs.Fours.{next, streams_more}
 use Rattle.judge.specs.Verdicts.{transfer_in, transfers_in, advised}

@@ -1,4 +1,6 @@
 // The judge: whether an adviser's plan is good, from the streams' numbers, the gap and the room alone, by sums of its own.
+#![tactic(auto)]
+
 mod balance;
 mod order;
 mod verdicts;

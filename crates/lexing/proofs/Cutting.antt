@@ -1,8 +1,8 @@
 -- Lines and words, cut off one at a time.
-use Rattle.std.proofs.Common.{◌≡◌, ℕ, zero, suc, ◌+◌, ◌<◌, ◌≤◌, Bool, true, false, cond, not, eqb, List, [], ◌∷◌, ◌++◌, length, get_or, take, drop, sym, refl, ap, ◌∙◌, ap₂, arith}
+use Rattle.std.proofs.Common.{◌≡◌, ℕ, ◌+◌, ◌<◌, Bool, true, false, cond, not, eqb, List, [], ◌∷◌, length, take, drop, sym, refl, ap, ◌∙◌, ap₂, arith}
 use Rattle.std.proofs.lemmas.List.{drop_more}
-use Rattle.lexing.specs.declared.Stop.TheVariants.{Newline, Comment, Blank, Word}
-use Rattle.lexing.specs.Lexing.{blank, passes, up_to, from_first, onto_first, lines, begins_word, words}
+use Rattle.lexing.specs.declared.Stop.TheVariants.{Newline, Blank, Word}
+use Rattle.lexing.specs.Lexing.{blank, passes, up_to, from_first, onto_first, lines, words}
 
 -- a text is its first line, or that and a newline and the lines behind it
 abbrev after_line : List ℕ → List (List ℕ)

@@ -1,4 +1,6 @@
 // Lexing: the lines, words and whole numbers of a text, byte by byte.
+#![tactic(auto)]
+
 ghost use Rattle.std.specs.Prelude.{◌≡◌, ◌≤◌, [], ◌∷◌, length, take, drop, MatchOption};
 ghost use Rattle.lexing.specs.Lexing.{passes, up_to, from_first, uncommented, trimmed, lines, words, number_in, LineAndRest};
 

@@ -1,4 +1,6 @@
 // Worked cases: rooms that the planner writes, number by number.
+#![tactic(auto)]
+
 #[cfg(test)]
 mod tests {
     use judge::{Verdict, judge};

@@ -1,5 +1,5 @@
 -- What is given from a place up, with the boiler as one more place above the degrees; and the two facts that the planner needs of the target.
-use Rattle.std.proofs.Common.{◌≡◌, ℕ, suc, ◌+◌, ◌-◌, ◌<◌, ◌≤◌, cond, leb, refl, inl, inr, arith}
+use Rattle.std.proofs.Common.{◌≡◌, ℕ, suc, ◌+◌, ◌<◌, ◌≤◌, cond, leb, refl, inl, inr, arith}
 use Rattle.std.proofs.lemmas.Bool.{cases_lt, le-leb, lt-leb}
 use Rattle.streams.specs.Heat.{sum_from}
 use Rattle.streams.proofs.Sums.{from_step, from_top, from_falls}

@@ -1,14 +1,14 @@
 -- The plan that transfers make, from what each place has sent and got.
-use Rattle.std.proofs.Common.{◌≡◌, ℕ, zero, suc, ◌+◌, ◌-◌, ◌*◌, ◌<◌, ◌≤◌, min, Bool, true, false, cond, ◌&&◌, eqb, ltb, ◌⊎◌, List, [], ◌∷◌, ◌++◌, length, sym, refl, ap, ◌∙◌, inl, inr, arith}
+use Rattle.std.proofs.Common.{◌≡◌, ℕ, zero, suc, ◌+◌, ◌<◌, ◌≤◌, Bool, true, false, cond, ◌&&◌, eqb, ltb, List, [], ◌∷◌, ◌++◌, length, refl, inl, inr, arith}
 use Rattle.std.specs.List.{AllByRecursion as All}
 use Rattle.std.proofs.lemmas.List.{length-append}
 use Rattle.std.proofs.ByRecursion.{All-append, All-weaker}
 use Rattle.std.proofs.lemmas.Bool.{cases_lt, cases_eq, eq-eqb, ne_eqb, lt-ltb, le-ltb}
 use Rattle.streams.specs.Heat.{sum_below, sum_from}
 use Rattle.streams.proofs.Sums.{sum_ext, sum_add, sum_zero}
-use Rattle.targets.specs.Plans.{Feasible, bought}
+use Rattle.targets.specs.Plans.{bought}
 use Rattle.plans.specs.declared.transfers.Transfer.{Transfer}
-use Rattle.plans.specs.Transfers.{outside, flat, moved, plan_of, Place, Proper, Before, Ordered, sent, got}
+use Rattle.plans.specs.Transfers.{outside, moved, plan_of, Place, Proper, Before, Ordered, sent, got}
 use Rattle.plans.specs.Pieces.{Put, Falling, Rejected, Served}
 use Rattle.plans.specs.Promise.{LaidOut}
 use Rattle.plans.proofs.Rows.{sent_append, got_append, ordered_append}

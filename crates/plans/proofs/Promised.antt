@@ -1,13 +1,12 @@
 -- From a plan that is laid out to what is promised of it.
-use Rattle.std.proofs.Common.{◌≡◌, ℕ, ◌<◌, ◌≤◌, List, sym, ◌∙◌, subst, arith}
+use Rattle.std.proofs.Common.{◌≡◌, ℕ, ◌<◌, List, ◌∙◌, arith}
 use Rattle.streams.specs.declared.loads.Loads.{Loads}
 use Rattle.streams.specs.declared.model.Stream.{Stream}
 use Rattle.streams.specs.Heat.{supply_of, demand_of}
 use Rattle.streams.specs.Loaded.{supply_in, demand_in, LoadsOf}
 use Rattle.targets.specs.declared.Targets.{Targets}
-use Rattle.targets.specs.Found.{Found, FoundFor}
+use Rattle.targets.specs.Found.{FoundFor}
 use Rattle.targets.specs.Plans.{Plan, Feasible}
-use Rattle.targets.proofs.Promises.{found_for}
 use Rattle.plans.specs.Transfers.{plan_of}
 use Rattle.plans.specs.Promise.{LaidOut, CheapestPlan}
 

@@ -1,12 +1,12 @@
 -- What goes to the river, degree by degree from the top.
-use Rattle.std.proofs.Common.{◌≡◌, ℕ, zero, suc, ◌+◌, ◌-◌, ◌*◌, ◌<◌, ◌≤◌, min, Bool, true, false, cond, eqb, ◌⊎◌, List, [], ◌∷◌, ◌++◌, length, drop, sym, refl, ap, ◌∙◌, inl, inr, arith}
+use Rattle.std.proofs.Common.{◌≡◌, ℕ, suc, ◌+◌, ◌-◌, ◌*◌, ◌<◌, ◌≤◌, min, List, [], ◌++◌, length, sym, refl, ap, inl, inr, arith}
 use Rattle.std.specs.List.{AllByRecursion as All}
 use Rattle.std.proofs.ByRecursion.{All-weaker}
 use Rattle.std.proofs.lemmas.Bool.{cases_lt, cases_eq, eq-eqb, ne_eqb}
 use Rattle.streams.specs.Heat.{sum_from}
 use Rattle.streams.proofs.Sums.{from_step, from_top, from_falls}
 use Rattle.plans.specs.declared.transfers.Transfer.{Transfer}
-use Rattle.plans.specs.Transfers.{outside, flat, Above, Proper, Ordered, sent}
+use Rattle.plans.specs.Transfers.{outside, flat, Above, Ordered, sent}
 use Rattle.plans.specs.Pieces.{some, splice, spare, Put, Rejected}
 use Rattle.plans.proofs.Room.{spliced}
 use Rattle.plans.proofs.Rows.{some_none, some_few, all_more, ordered_more, sent_more}

@@ -1,5 +1,5 @@
 -- The loop that meets what is wanted, turn by turn.
-use Rattle.std.proofs.Common.{◌≡◌, ℕ, zero, suc, ◌+◌, ◌-◌, ◌*◌, ◌<◌, ◌≤◌, min, ◌⊎◌, List, [], ◌∷◌, ◌++◌, length, drop, sym, refl, ap, ◌∙◌, inl, inr, arith}
+use Rattle.std.proofs.Common.{◌≡◌, ℕ, suc, ◌+◌, ◌-◌, ◌*◌, ◌<◌, ◌≤◌, min, ◌⊎◌, List, [], ◌++◌, length, sym, refl, ap, inl, inr, arith}
 use Rattle.std.specs.List.{AllByRecursion as All}
 use Rattle.std.proofs.ByRecursion.{All-weaker}
 use Rattle.std.proofs.lemmas.Bool.{cases_lt}
@@ -7,11 +7,11 @@ use Rattle.streams.specs.Heat.{sum_from}
 use Rattle.streams.proofs.Sums.{from_step, from_falls, from_top}
 use Rattle.targets.specs.Deficits.{target}
 use Rattle.plans.specs.declared.transfers.Transfer.{Transfer}
-use Rattle.plans.specs.Transfers.{outside, mark, flat, Above, Proper, Ordered, sent, got}
+use Rattle.plans.specs.Transfers.{mark, flat, Above, Ordered, sent, got}
 use Rattle.plans.specs.Pieces.{some, splice, Falling, spare, Put, Roomy, Served}
 use Rattle.plans.proofs.Given.{Enough, enough, given, given_at, given_step, given_boiler, given_falls, given_past}
 use Rattle.plans.proofs.Room.{spliced}
-use Rattle.plans.proofs.Rows.{some_none, some_few, all_more, ordered_more, sent_more, mark_degree, mark_boiler, mark_place, mark_rises, mark_over}
+use Rattle.plans.proofs.Rows.{some_none, some_few, all_more, ordered_more, mark_degree, mark_boiler, mark_place, mark_rises, mark_over}
 use Rattle.plans.proofs.Line.{Falls, share, Line, lay, lower_hot, lower_cold, share_none}
 
 -- what is wanted from a degree up

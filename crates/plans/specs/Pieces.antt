@@ -1,7 +1,7 @@
 -- Pieces of the planner's work; inner notions, which no public promise cites.
 use Rattle.std.specs.Prelude.{◌≡◌, ℕ, ◌+◌, ◌-◌, ◌*◌, ◌<◌, ◌≤◌, min, cond, ◌⊎◌, List, [], ◌∷◌, ◌++◌, length, take, drop, ◌==◌}
 use Rattle.std.specs.List.{AllByRecursion as All}
-use Rattle.streams.specs.Heat.{sum_below, sum_from}
+use Rattle.streams.specs.Heat.{sum_from}
 use Rattle.plans.specs.declared.transfers.Transfer.{Transfer}
 use Rattle.plans.specs.Transfers.{outside, flat, sent, got, Ordered}
 

@@ -1,4 +1,6 @@
 // Plans: the transfers of a cheapest plan, written into the caller's room, degree by degree.
+#![tactic(auto)]
+
 mod entry;
 mod planner;
 mod transfers;

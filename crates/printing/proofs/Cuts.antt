@@ -3,7 +3,6 @@ use Rattle.std.proofs.Common.{◌≡◌, ℕ, ◌+◌, ◌-◌, ◌<◌, ◌≤�
 use Rattle.std.proofs.lemmas.Slice.Eq.{slice_eq-Decides, bytes_eq-Decides}
 use Rattle.std.proofs.lemmas.List.{append_assoc, append-nil, take_more, drop_more, drop_all, take_rest, length-drop}
 use Rattle.std.proofs.lemmas.Bool.{cond-true, cond-false}
-use Rattle.std.specs.Cmp.Lexicographic.{Matches}
 use Rattle.std.specs.Str.{bytes_eq}
 use Rattle.printing.specs.ReadBack.{begins, ahead, cut}
 use Rattle.std.proofs.lemmas.Bool.Decides.{Decides-eqb}
@@ -53,10 +52,10 @@ cut_start text bs = sym (ahead_none (cut text bs))
 
 -- `==` and `starts_with` of the code
 abbrev pub Equal : List ℕ → List ℕ → Bool → Type 0
-Equal xs ys r = Matches (λ (a b : ℕ) (t : Bool). Decides t (a ≡ b)) xs ys r
+Equal xs ys r = r ≡ bytes_eq xs ys
 
 pub same_as : (xs ys : List ℕ) (r : Bool) → Equal xs ys r → bytes_eq xs ys ≡ r
-same_as xs ys r h = let d = slice_eq-Decides Decides-eqb xs ys r h in search (rules, bytes_eq-Decides)
+same_as xs ys r h = sym h
 
 -- what is left of a slice, as the code has it
 abbrev rest_of : List ℕ → ℕ → List ℕ

@@ -1,4 +1,6 @@
 // Printing: the answer as a brewer reads it, first the targets, then a line for each transfer.
+#![tactic(auto)]
+
 mod reader;
 
 ghost use Rattle.std.specs.Prelude.{◌≡◌, ◌++◌, IfOk, string_bytes, OnOk};

@@ -1,4 +1,6 @@
 // Sentences: why a text is turned away, and how a brewer is told.
+#![tactic(auto)]
+
 mod telling;
 mod turned;
 

@@ -1,4 +1,6 @@
 // Worked cases: numbers, gaps and rooms at the edge of each rule, and sums of a few streams.
+#![tactic(auto)]
+
 #[cfg(test)]
 mod tests {
     use std::alloc::{AllocError, Global};

@@ -1,8 +1,7 @@
 -- Numbers in fours, one stream at a time.
-use Rattle.std.proofs.Common.{◌≡◌, ℕ, suc, ◌+◌, ◌-◌, ◌*◌, ◌%◌, ◌<◌, ◌≤◌, Bool, true, false, cond, ◌||◌, eqb, ltb, leb, ◌≢◌, List, [], ◌∷◌, ◌++◌, length, get_or, take, drop, set, Some, None, Ok, Err, Option, Result, sym, refl, ap, ◌∙◌, append_assoc, arith, below_more}
+use Rattle.std.proofs.Common.{◌≡◌, ℕ, ◌+◌, ◌-◌, ◌*◌, ◌%◌, ◌<◌, ◌≤◌, Bool, true, false, ◌||◌, ltb, leb, ◌≢◌, List, [], ◌∷◌, ◌++◌, length, get_or, take, drop, set, Some, None, Ok, Err, Option, sym, refl, ap, ◌∙◌, append_assoc, arith, below_more}
 use Rattle.std.proofs.lemmas.List.{take_rest, take_more_set, get_or-set_same, get_or-set_other, length-drop, length-set, append-nil, nil_from_length}
 use Rattle.std.proofs.lemmas.Bool.{ltb-false, leb-false, or_parts, eq-eqb, lt-ltb, le-ltb}
-use Rattle.std.proofs.lemmas.Bool.Decides.{nat_tests}
 use Rattle.streams.specs.declared.model.Stream.{Stream}
 use Rattle.streams.specs.declared.refusals.Refusal.{Refusal}
 use Rattle.streams.specs.declared.refusals.Refusal.TheVariants.{RoomTooSmall}

@@ -1,10 +1,9 @@
 -- Streams in numbers, and the rules by which they are refused, in their order.
-use Rattle.std.specs.Prelude.{ℕ, ◌+◌, ◌*◌, ◌%◌, ◌<◌, ◌≤◌, Bool, true, false, cond, not, ◌||◌, List, [], ◌∷◌, length, Some, None, Ok, Err, Option, Result, ◌==◌, nat_le, nat_lt}
-use Rattle.streams.specs.declared.model.Kind.{Kind}
+use Rattle.std.specs.Prelude.{ℕ, ◌+◌, ◌%◌, ◌<◌, ◌≤◌, Bool, true, false, cond, not, ◌||◌, List, [], ◌∷◌, length, Some, None, Ok, Err, Option, Result, ◌==◌, nat_le, nat_lt}
 use Rattle.streams.specs.declared.model.Kind.TheVariants.{Hot, Cold}
 use Rattle.streams.specs.declared.model.Stream.{Stream}
 use Rattle.streams.specs.declared.refusals.Refusal.{Refusal}
-use Rattle.streams.specs.declared.refusals.Refusal.TheVariants.{NotInFours, TooManyStreams, GapTooWide, UnknownKind, LowNotBelowHigh, TooWarm, RateOutOfRange, RoomTooSmall, Unreadable}
+use Rattle.streams.specs.declared.refusals.Refusal.TheVariants.{NotInFours, TooManyStreams, GapTooWide, UnknownKind, LowNotBelowHigh, TooWarm, RateOutOfRange, RoomTooSmall}
 
 -- four numbers are a stream: 1 for hot or 0 for cold, low, high, heat for each degree
 abbrev pub stream_in : ℕ → ℕ → ℕ → ℕ → Stream

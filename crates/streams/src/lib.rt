@@ -1,4 +1,6 @@
 // Streams: what a caller's numbers mean, which of them are refused, and what hot streams give and cold streams take in each degree.
+#![tactic(auto)]
+
 mod checking;
 mod loads;
 mod model;

@@ -1,4 +1,6 @@
 // Worked cases: four streams whose targets are theorems, and rows that are run.
+#![tactic(auto)]
+
 ghost use Rattle.target_cases.specs.Four.{Row};
 ghost use Rattle.std.specs.Prelude.{Some, None};
 

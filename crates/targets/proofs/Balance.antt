@@ -1,9 +1,9 @@
 -- What every feasible plan comes to above a degree, and what follows for what it buys.
-use Rattle.std.proofs.Common.{◌≡◌, ℕ, ◌+◌, ◌-◌, ◌<◌, ◌≤◌, refl, zero-add, arith}
+use Rattle.std.proofs.Common.{◌≡◌, ℕ, ◌+◌, ◌-◌, ◌≤◌, refl, arith}
 use Rattle.streams.specs.Heat.{sum_below, sum_from}
 use Rattle.streams.proofs.Sums.{sum_ext, sum_add, sum_zero, sum_swap, split_at, from_bottom, term_le_sum, term_le_from}
 use Rattle.targets.specs.Deficits.{deficit, target}
-use Rattle.targets.specs.Plans.{Plan, Feasible, bought, wasted, Accounted, Closed, Closes}
+use Rattle.targets.specs.Plans.{Plan, Feasible, bought, wasted, Accounted, Closes}
 use Rattle.targets.proofs.Largest.{most_least}
 
 -- what passes from d and above to below d

@@ -1,9 +1,9 @@
 -- The way down from the warmest degree: what is known once the degrees from d up are passed.
-use Rattle.std.proofs.Common.{◌≡◌, ℕ, zero, suc, ◌+◌, ◌-◌, ◌*◌, ◌<◌, ◌≤◌, max, ◌⊎◌, Some, None, Option, sym, refl, ap, ◌∙◌, inl, inr, arith}
+use Rattle.std.proofs.Common.{◌≡◌, ℕ, suc, ◌+◌, ◌-◌, ◌*◌, ◌<◌, ◌≤◌, max, ◌⊎◌, Some, None, Option, sym, refl, inl, inr, arith}
 use Rattle.std.proofs.lemmas.Bool.{cases_eq}
-use Rattle.streams.specs.Heat.{sum_below, sum_from}
-use Rattle.streams.proofs.Sums.{from_step, from_top, from_bottom}
-use Rattle.targets.specs.Deficits.{deficit, most_below, target, Lowest}
+use Rattle.streams.specs.Heat.{sum_from}
+use Rattle.streams.proofs.Sums.{from_step, from_top}
+use Rattle.targets.specs.Deficits.{deficit, target, Lowest}
 use Rattle.targets.proofs.Largest.{most_is}
 
 -- the lowest of the degrees from d up at which so much is lacking, if anything is

@@ -1,17 +1,16 @@
 -- What a gap means: a smaller one never needs more, and what passes keeps it.
-use Rattle.std.proofs.Common.{◌≡◌, ℕ, zero, suc, ◌+◌, ◌-◌, ◌*◌, ◌<◌, ◌≤◌, min, Bool, true, false, cond, ◌&&◌, ltb, leb, ◌⊎◌, List, [], ◌∷◌, length, sym, refl, ap, ◌∙◌, inl, inr, mul-le-mul_left, arith}
+use Rattle.std.proofs.Common.{◌≡◌, ℕ, ◌+◌, ◌-◌, ◌*◌, ◌<◌, ◌≤◌, min, Bool, true, false, cond, ltb, leb, List, [], ◌∷◌, sym, refl, ap, ◌∙◌, inl, inr, mul-le-mul_left, arith}
 use Rattle.std.specs.List.{ContainsAt as Has}
 use Rattle.std.proofs.ByRecursion.{has_append_right}
 use Rattle.std.proofs.lemmas.Bool.{cases_lt, leb-true, ltb-true, and_parts}
 use Rattle.streams.specs.declared.model.Kind.{Kind}
 use Rattle.streams.specs.declared.model.Kind.TheVariants.{Hot, Cold}
 use Rattle.streams.specs.declared.model.Stream.{Stream}
-use Rattle.streams.specs.Heat.{within, is, heat, load, supply_of, demand_of, sum_below, sum_from}
+use Rattle.streams.specs.Heat.{within, is, heat, load, supply_of, demand_of, sum_below}
 use Rattle.streams.proofs.Sums.{sum_zero, split_at, term_le_sum}
 use Rattle.streams.proofs.Laws.{load_none, load_cons, sum_heat, sum_load_cons}
 use Rattle.targets.specs.Deficits.{deficit, target}
-use Rattle.targets.specs.Plans.{Plan, Feasible}
-use Rattle.targets.specs.Kept.{Kept, KeepsGap, ColdBelow, SmallerGap}
+use Rattle.targets.specs.Kept.{KeepsGap, ColdBelow, SmallerGap}
 use Rattle.targets.proofs.Largest.{most_least, le_most}
 
 -- the larger the shift, the less lies below a degree

@@ -1,6 +1,6 @@
 -- A plan that buys no more than the target: the boiler serves the warmest demand until all that is bought is spent, and what is left of the demand
 -- is laid beside the supply on one line of heat, from the warmest down. One degree passes to another where the two overlap on that line.
-use Rattle.std.proofs.Common.{◌≡◌, ℕ, zero, suc, ◌+◌, ◌-◌, ◌<◌, ◌≤◌, min, sym, refl, arith}
+use Rattle.std.proofs.Common.{◌≡◌, ℕ, zero, suc, ◌+◌, ◌-◌, ◌<◌, ◌≤◌, min, arith}
 use native.Mathlib.Nat.{min_comm}
 use Rattle.streams.specs.Heat.{sum_below, sum_from}
 use Rattle.streams.proofs.Sums.{sum_ext, from_step, from_top, from_falls}

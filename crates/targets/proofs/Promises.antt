@@ -1,5 +1,5 @@
 -- From what the way down finds to what is promised of it.
-use Rattle.std.proofs.Common.{◌≡◌, ℕ, ◌+◌, ◌<◌, ◌≤◌, List, Some, None, Option, sym, refl, ap, ◌∙◌, arith}
+use Rattle.std.proofs.Common.{◌≡◌, ℕ, ◌+◌, ◌<◌, List, Some, None, Option, sym, ◌∙◌, arith}
 use Rattle.streams.specs.declared.loads.Loads.{Loads}
 use Rattle.streams.specs.declared.model.Stream.{Stream}
 use Rattle.streams.specs.declared.table.StreamTable.{StreamTable}
@@ -8,7 +8,7 @@ use Rattle.streams.specs.Heat.{sum_below, supply_of, demand_of}
 use Rattle.streams.specs.Loaded.{supply_in, demand_in, LoadsOf, Loaded}
 use Rattle.streams.proofs.Sums.{sum_ext, from_ext}
 use Rattle.targets.specs.declared.Targets.{Targets}
-use Rattle.targets.specs.Deficits.{deficit, most_below, target, Lowest}
+use Rattle.targets.specs.Deficits.{deficit, target, Lowest}
 use Rattle.targets.specs.Found.{Found, FoundFor, FoundOf}
 use Rattle.targets.proofs.Largest.{most_ext}
 use Rattle.targets.proofs.Balance.{accounted, closes}

@@ -1,5 +1,5 @@
 -- What is found of supply and demand, and of streams.
-use Rattle.std.specs.Prelude.{◌≡◌, ℕ, ◌+◌, ◌≤◌, List}
+use Rattle.std.specs.Prelude.{◌≡◌, ℕ, ◌+◌, List}
 use Rattle.std.specs.List.Sorted.{IsPermutation}
 use Rattle.streams.specs.declared.model.Stream.{Stream}
 use Rattle.streams.specs.Heat.{sum_below, supply_of, demand_of}

@@ -1,4 +1,6 @@
 // Targets: the least heat that has to be bought, what then goes to the river, and the degree across which nothing may pass.
+#![tactic(auto)]
+
 mod cascade;
 
 ghost use Rattle.streams.specs.Checked.{listed};

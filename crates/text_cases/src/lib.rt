@@ -1,4 +1,6 @@
 // Worked cases: texts, good and bad, beside what is to be said of them.
+#![tactic(auto)]
+
 #[cfg(test)]
 mod tests {
     use std::alloc::Global;

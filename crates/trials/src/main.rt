@@ -1,5 +1,7 @@
 // Trials: random lists of streams, for which the planner's answer stands beside the judge, sums in the streams' own temperatures and a largest flow. It prints how many there
 // were, and fails at the first difference with the streams that show it.
+#![tactic(auto)]
+
 mod broken;
 mod examine;
 mod families;

@@ -1,4 +1,6 @@
 // The program: reads a text from the file that is named, or from standard input, and prints the answer or why there is none.
+#![tactic(auto)]
+
 use anyhow::anyhow;
 use std::alloc::AllocError;
 use std::io::Read;

@@ -1,4 +1,4 @@
-use Rattle.std.proofs.Common.{◌≡◌, ℕ, ◌+◌, ◌-◌, ◌*◌, ◌<◌, List, ◌∷◌, length, get_or, drop, sym, ap, ◌∙◌, arith}
+use Rattle.std.proofs.Common.{◌≡◌, length, sym, ap, ◌∙◌, arith}
 use Rattle.std.proofs.lemmas.List.{at_drop_more, at_drop_all, nil_from_length}
 use Rattle.std.proofs.lemmas.Bool.{eqb-true, eqb-false}
 use Rattle.lexing.specs.Lexing.{number_in}
@@ -6,14 +6,14 @@ use Rattle.lexing.proofs.Reading.{number_from, number_none, number_whole, number
 use Rattle.lexing.proofs.number.Goals as goal
 use Rattle.lexing.proofs.number.Goals.{then-b-lt48-via-then-b-lt48, then-b-lt48-via-else-b-lt48+then-b-gt57}
 
-pub returns-then-is-empty : goal.returns-then-is-empty
-returns-then-is-empty c =
-    let z : length c.args.word.now ≡ 0 = eqb-true _ _ (sym c.if-is-empty.ensures) in
+pub returns-then-is_empty : goal.returns-then-is_empty
+returns-then-is_empty c =
+    let z : length c.args.word.now ≡ 0 = eqb-true _ _ (sym c.if-is_empty.ensures) in
     sym (ap number_in (nil_from_length c.args.word.now z) ∙ number_none)
 
 pub loop-b-init : goal.loop-b-init
 loop-b-init c =
-    let n : length c.args.word.now ≡ 0 → ⊥ = eqb-false _ _ (sym c.if-is-empty.ensures) in
+    let n : length c.args.word.now ≡ 0 → ⊥ = eqb-false _ _ (sym c.if-is_empty.ensures) in
     (sym (number_whole c.args.word.now n), omega arith)
 
 pub returns-then-b-lt48 : goal.returns-then-b-lt48

@@ -5,7 +5,7 @@ use Rattle.judge.proofs.balance.moved_at.Goals as goal
 pub loop-rest-preserved : goal.loop-rest-preserved
 loop-rest-preserved c =
     let l : 3 ≤ length c.loop-rest.rest.now = omega (arith, ltb-false) in
-    rw (c.saturating-add-gives.ensures, c.heat-if.ensures, c.saturating-add-gets.ensures, c.heat-if-in-len3-up.ensures)
+    rw (c.saturating_add-gives.ensures, c.heat_if.ensures, c.saturating_add-gets.ensures, c.heat_if-in-len3-up.ensures)
     (moving_more c.args.degree c.args.plan.now c.loop-rest.gives c.loop-rest.gets c.loop-rest.rest.now l c.loop-rest.invariant)
 
 pub returns : goal.returns

@@ -8,7 +8,7 @@ pub loop-rest-preserved : goal.loop-rest-preserved
 loop-rest-preserved c =
     let l : 4 ≤ length c.loop-rest.rest.now = omega (arith, ltb-false) in
     let fits : next c.loop-rest.rest.now 3 < 2 ^ 32 = omega arith in
-    rw (c.heat-at-gives.ensures, c.heat-at-gets.ensures) (
+    rw (c.heat_at-gives.ensures, c.heat_at-gets.ensures) (
       wanting_more Hot 0 c.args.degree c.args.streams.now c.loop-rest.gives c.loop-rest.rest.now _ l fits (hot_is (eqb (next c.loop-rest.rest.now 0) 1)) c.loop-rest.invariant.0,
       wanting_more Cold c.args.gap c.args.degree c.args.streams.now c.loop-rest.gets c.loop-rest.rest.now _ l fits (cold_is (eqb (next c.loop-rest.rest.now 0) 1)) c.loop-rest.invariant.1,
     )

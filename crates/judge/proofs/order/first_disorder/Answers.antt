@@ -2,15 +2,15 @@ use Rattle.std.proofs.Common.{◌<◌, ◌≤◌, length, sym, ◌∙◌, arith,
 use Rattle.judge.proofs.Passing.{passing_more, passing_stops, passing_all}
 use Rattle.judge.proofs.order.first_disorder.Goals as goal
 
-pub returns-then-not-may-follow : goal.returns-then-not-may-follow
-returns-then-not-may-follow c =
+pub returns-then-not-may_follow : goal.returns-then-not-may_follow
+returns-then-not-may_follow c =
     let l : 3 ≤ length c.loop-rest.rest.now = omega (arith, ltb-false) in
-    passing_stops c.args.plan.now c.loop-rest.a c.loop-rest.b c.loop-rest.count c.loop-rest.rest.now l (sym c.may-follow.ensures ∙ c.if-not-may-follow.true) c.loop-rest.invariant
+    passing_stops c.args.plan.now c.loop-rest.a c.loop-rest.b c.loop-rest.count c.loop-rest.rest.now l (sym c.may_follow.ensures ∙ c.if-not-may_follow.true) c.loop-rest.invariant
 
 pub loop-rest-preserved : goal.loop-rest-preserved
 loop-rest-preserved c =
     let l : 3 ≤ length c.loop-rest.rest.now = omega (arith, ltb-false) in
-    passing_more c.args.plan.now c.loop-rest.a c.loop-rest.b c.loop-rest.count c.loop-rest.rest.now l (sym c.may-follow.ensures ∙ c.if-not-may-follow.false) c.loop-rest.invariant
+    passing_more c.args.plan.now c.loop-rest.a c.loop-rest.b c.loop-rest.count c.loop-rest.rest.now l (sym c.may_follow.ensures ∙ c.if-not-may_follow.false) c.loop-rest.invariant
 
 pub returns : goal.returns
 returns c =

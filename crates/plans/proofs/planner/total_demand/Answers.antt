@@ -6,8 +6,8 @@ use Rattle.plans.proofs.planner.total_demand.Goals as goal
 pub loop-take-init : goal.loop-take-init
 loop-take-init c = (omega (arith, sum_none (demand_in c.args.loads.now)), omega arith)
 
-pub overflow-add-total : goal.overflow-add-total
-overflow-add-total c =
+pub overflow_add-total : goal.overflow_add-total
+overflow_add-total c =
     let n : length c.args.loads.now.demand ≡ 1000 = search rules in
     omega (arith, c.args.loads.now.demand_few c.loop-take.take-index (omega arith))
 

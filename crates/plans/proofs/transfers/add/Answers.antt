@@ -1,4 +1,4 @@
-use Rattle.std.proofs.Common.{◌≡◌, ◌+◌, ◌*◌, length, sym, refl, ap, add-zero, arith}
+use Rattle.std.proofs.Common.{◌*◌, length, sym, refl, ap, add-zero, arith}
 use Rattle.std.proofs.lemmas.List.{take-append-drop}
 use Rattle.plans.specs.Transfers.{words}
 use Rattle.plans.proofs.Room.{lent}

@@ -6,10 +6,10 @@ pub loop-i-init : goal.loop-i-init
 loop-i-init c = cut_start c.args.text.now c.args.bytes.now
 
 pub loop-i-preserved : goal.loop-i-preserved
-loop-i-preserved c = not_here c.args.text.now c.args.bytes.now c.loop-i.i _ (omega arith) c.if-starts-with.false c.starts-with.ensures.value c.loop-i.invariant
+loop-i-preserved c = not_here c.args.text.now c.args.bytes.now c.loop-i.i _ (omega arith) c.if-starts_with.false c.starts_with.ensures.value c.loop-i.invariant
 
-pub returns-then-starts-with : goal.returns-then-starts-with
-returns-then-starts-with c = here c.args.text.now c.args.bytes.now c.loop-i.i _ (omega arith) c.if-starts-with.true c.starts-with.ensures.value c.loop-i.invariant
+pub returns-then-starts_with : goal.returns-then-starts_with
+returns-then-starts_with c = here c.args.text.now c.args.bytes.now c.loop-i.i _ (omega arith) c.if-starts_with.true c.starts_with.ensures.value c.loop-i.invariant
 
 pub returns : goal.returns
 returns c = cut_none c.args.text.now c.args.bytes.now c.loop-i.i (omega arith) c.loop-i.invariant

@@ -1,4 +1,4 @@
-use Rattle.std.proofs.Common.{◌≡◌, ℕ, ◌≤◌, length, arith, rules}
+use Rattle.std.proofs.Common.{◌≡◌, ◌≤◌, length, arith, rules}
 use Rattle.std.specs.Slice.Iter.{iter_rest}
 use Rattle.std.specs.Iterator.Adapters.{rev_source, zip_first}
 use Rattle.streams.proofs.Sums.{from_bottom}
@@ -14,8 +14,8 @@ loop-give-init c =
     let ly : length c.args.loads.now.demand ≡ 1000 = search rules in
     search (rules, turn_none c.args.loads.now.supply c.args.loads.now.demand lx ly)
 
-pub lower-so-far-requires : goal.lower-so-far-requires
-lower-so-far-requires c =
+pub lower-so_far-requires : goal.lower-so_far-requires
+lower-so_far-requires c =
     let lx : length c.args.loads.now.supply ≡ 1000 = search rules in
     let ly : length c.args.loads.now.demand ≡ 1000 = search rules in
     let f = fits _ _ lx ly c.args.loads.now.supply_few c.args.loads.now.demand_few _ _ _ _ _ _ _ c.in-Some.ensures.steps.0 c.in-Some.ensures.steps.1 c.loop-give.invariant in
@@ -26,16 +26,16 @@ loop-give-preserved c =
     let lx : length c.args.loads.now.supply ≡ 1000 = search rules in
     let ly : length c.args.loads.now.demand ≡ 1000 = search rules in
     turn_more _ _ lx ly c.args.loads.now.supply_few c.args.loads.now.demand_few _ _ _ _ _ _ _ c.in-Some.ensures.steps.0 c.in-Some.ensures.steps.1 c.loop-give.invariant
-    _ c.lower-so-far.ensures
+    _ c.lower-so_far.ensures
 
-pub overflow-add-result : goal.overflow-add-result
-overflow-add-result c =
+pub overflow_add-result : goal.overflow_add-result
+overflow_add-result c =
     let z : length (iter_rest (rev_source (zip_first c.loop-give.give-iterator))) ≤ 0 = search (rules, c.in-None.ensures.steps, c.loop-give.invariant.even) in
     let d = turn_all _ _ _ _ _ z c.loop-give.invariant in
     omega (arith, d.supply_bounded, d.demand_bounded, d.most_few)
 
-pub overflow-sub-result : goal.overflow-sub-result
-overflow-sub-result c =
+pub overflow_sub-result : goal.overflow_sub-result
+overflow_sub-result c =
     let z : length (iter_rest (rev_source (zip_first c.loop-give.give-iterator))) ≤ 0 = search (rules, c.in-None.ensures.steps, c.loop-give.invariant.even) in
     let d = turn_all _ _ _ _ _ z c.loop-give.invariant in
     omega (arith, enough 1000 _ _ _ _ _ _ (omega arith) d)

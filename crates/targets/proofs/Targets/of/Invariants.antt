@@ -5,4 +5,4 @@ use Rattle.targets.proofs.Targets.of.Given as goal
 
 abbrev pub invariant-loop-give : goal.invariant-loop-give
 invariant-loop-give l =
-    Turn l.loads.supply l.loads.demand (iter_rest (rev_source (zip_first l.give-iterator))) (iter_rest (rev_source (zip_second l.give-iterator))) l.so-far
+    Turn l.loads.supply l.loads.demand (iter_rest (rev_source (zip_first l.give-iterator))) (iter_rest (rev_source (zip_second l.give-iterator))) l.so_far

@@ -8,17 +8,17 @@ use Rattle.text.proofs.answering.answer.Goals.{then-problem+in-ok-push-transfers
 
 pub returns-in-Ok : goal.returns-in-Ok
 returns-in-Ok c =
-    printed_for c.args.text.now c.in-ok-problem.problem c.as-slice.result.now c.unwrap-or-gap.result c.in-ok-problem.ensures c.as-slice.ensures.value c.unwrap-or-gap.ensures
-    c.in-Ok.written c.write-plan.new.room _ c.in-Ok.ensures
+    printed_for c.args.text.now c.in_ok-problem.problem c.as_slice.result.now c.unwrap_or-gap.result c.in_ok-problem.ensures c.as_slice.ensures.value c.unwrap_or-gap.ensures
+    c.in-Ok.written c.write_plan.new.room _ c.in-Ok.ensures
     (elim c.if-problem.branch [
       | then-problem+in-ok-push-transfers w ↦
           with_lines (first_line_bytes c.in-Ok.written.targets) _ _ _ w.if-problem.true
-          (ap (λ (t : String Global). string_bytes t) w.out-is ∙ (simp sub-zero at w.in-ok-push-transfers.ensures)
-          ∙ ap (λ (bs : List ℕ). bs ++ transfer_lines (take (3 * c.in-Ok.written.transfers) c.write-plan.new.room)) c.in-ok-out.ensures)
-      | else-problem w ↦ without_lines (first_line_bytes c.in-Ok.written.targets) _ _ _ w.if-problem.false (ap (λ (t : String Global). string_bytes t) w.out-is ∙ c.in-ok-out.ensures)
+          (ap (λ (t : String Global). string_bytes t) w.out-is ∙ (simp sub-zero at w.in_ok-push_transfers.ensures)
+          ∙ ap (λ (bs : List ℕ). bs ++ transfer_lines (take (3 * c.in-Ok.written.transfers) c.write_plan.new.room)) c.in_ok-out.ensures)
+      | else-problem w ↦ without_lines (first_line_bytes c.in-Ok.written.targets) _ _ _ w.if-problem.false (ap (λ (t : String Global). string_bytes t) w.out-is ∙ c.in_ok-out.ensures)
     ])
 
 pub returns : goal.returns
 returns c =
-    refused_for c.args.text.now c.in-ok-problem.problem c.as-slice.result.now c.unwrap-or-gap.result c.in-ok-problem.ensures c.as-slice.ensures.value c.unwrap-or-gap.ensures
-    c.in-Err.refusal _ c.in-Err.ensures.0 c.place-of-place.ensures
+    refused_for c.args.text.now c.in_ok-problem.problem c.as_slice.result.now c.unwrap_or-gap.result c.in_ok-problem.ensures c.as_slice.ensures.value c.unwrap_or-gap.ensures
+    c.in-Err.refusal _ c.in-Err.ensures.0 c.place_of-place.ensures

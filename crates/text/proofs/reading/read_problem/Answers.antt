@@ -11,37 +11,37 @@ loop-said-init c =
 
 pub returns-in-Err : goal.returns-in-Err
 returns-in-Err c =
-    let l = some_line c.loop-said.rest.now _ _ c.split-line.ensures in
+    let l = some_line c.loop-said.rest.now _ _ c.split_line.ensures in
     sym c.loop-said.invariant.0 ∙ ap (λ (ls : List (List ℕ)). asked_from (asked_by c.loop-said.problem) c.loop-said.place ls) l.1 ∙ line_unread _ _ _ _ c.in-Err.ensures
 
-pub returns-in-err-note : goal.returns-in-err-note
-returns-in-err-note c =
-    let p = err_from_is_err_and c.from-residual.result c.from-residual.ensures.1 in
-    let l = some_line c.loop-said.rest.now _ _ c.split-line.ensures in
+pub returns-in_err-note : goal.returns-in_err-note
+returns-in_err-note c =
+    let p = err_from_is_err_and c.from_residual.result c.from_residual.ensures.1 in
+    let l = some_line c.loop-said.rest.now _ _ c.split_line.ensures in
     rw (p.1, p.2)
-    (not_noted c.args.text.now c.loop-said.problem c.in-Ok.said c.loop-said.place _ c.note.new.self c.in-err-note.ensures
+    (not_noted c.args.text.now c.loop-said.problem c.in-Ok.said c.loop-said.place _ c.note.new.self c.in_err-note.ensures
     (λ q. sym c.loop-said.invariant.0 ∙ ap (λ (ls : List (List ℕ)). asked_from (asked_by c.loop-said.problem) c.loop-said.place ls) l.1 ∙ line_refused _ _ _ _ _ c.in-Ok.ensures q))
 
-pub returns-in-default : goal.returns-in-default
-returns-in-default c =
-    let l = last_line c.loop-said.rest.now _ _ c.split-line.ensures c.in-default.is in
+pub returns-in_default : goal.returns-in_default
+returns-in_default c =
+    let l = last_line c.loop-said.rest.now _ _ c.split_line.ensures c.in_default.is in
     sym c.loop-said.invariant.0 ∙ ap (λ (ls : List (List ℕ)). asked_from (asked_by c.loop-said.problem) c.loop-said.place ls) l
-    ∙ line_noted _ _ _ _ _ c.in-Ok.ensures _ c.in-ok-note.ensures ∙ asked_end _ _
+    ∙ line_noted _ _ _ _ _ c.in-Ok.ensures _ c.in_ok-note.ensures ∙ asked_end _ _
 
-pub overflow-add-place : goal.overflow-add-place
-overflow-add-place c =
-    let l = next_line c.loop-said.rest.now _ _ _ c.split-line.ensures c.in-Some.is in
+pub overflow_add-place : goal.overflow_add-place
+overflow_add-place c =
+    let l = next_line c.loop-said.rest.now _ _ _ c.split_line.ensures c.in-Some.is in
     omega (arith, ap length l, lines_some c.in-Some.behind.now)
 
 pub loop-said-smaller : goal.loop-said-smaller
 loop-said-smaller c =
-    let l = next_line c.loop-said.rest.now _ _ _ c.split-line.ensures c.in-Some.is in
+    let l = next_line c.loop-said.rest.now _ _ _ c.split_line.ensures c.in-Some.is in
     omega (arith, ap length l)
 
 pub loop-said-preserved : goal.loop-said-preserved
 loop-said-preserved c =
-    let l = next_line c.loop-said.rest.now _ _ _ c.split-line.ensures c.in-Some.is in (
-      sym (line_noted _ _ _ _ _ c.in-Ok.ensures _ c.in-ok-note.ensures)
+    let l = next_line c.loop-said.rest.now _ _ _ c.split_line.ensures c.in-Some.is in (
+      sym (line_noted _ _ _ _ _ c.in-Ok.ensures _ c.in_ok-note.ensures)
           ∙ ap (λ (ls : List (List ℕ)). asked_from (asked_by c.loop-said.problem) c.loop-said.place ls) (sym l) ∙ c.loop-said.invariant.0,
       omega (arith, ap length l),
     )

@@ -1,4 +1,4 @@
-use Rattle.std.proofs.Common.{◌≡◌, ℕ, ◌≤◌, List, length, sym, ap, ◌∙◌, arith}
+use Rattle.std.proofs.Common.{ℕ, ◌≤◌, List, length, sym, ap, ◌∙◌, arith}
 use Rattle.std.proofs.lemmas.List.{get_or-replicate}
 use Rattle.streams.specs.declared.model.Kind.TheVariants.{Hot, Cold}
 use Rattle.streams.specs.declared.model.Stream.{Stream}
@@ -10,13 +10,13 @@ use Rattle.streams.proofs.table.StreamTable.loads.Goals.{in-Hot, in-Cold}
 pub loop-s-init : goal.loop-s-init
 loop-s-init c = (summed_none _ _ _ _ (λ d l. get_or-replicate {A = ℕ} 1000 d 0 0 l), summed_none _ _ _ _ (λ d l. get_or-replicate {A = ℕ} 1000 d 0 0 l))
 
-pub add-stream-requires : goal.add-stream-requires
-add-stream-requires c =
+pub add_stream-requires : goal.add_stream-requires
+add_stream-requires c =
     let item = item_sound c.args.self.now _ _ c.streams-s-items.ensures c.loop-s-test.true in
     record { sound = (item.0.0, omega arith, item.0.2, item.0.3); fits = λ d l. omega (arith, c.loop-s.invariant.0.few d l) }
 
-pub add-stream-requires-in-Cold : goal.add-stream-requires-in-Cold
-add-stream-requires-in-Cold c =
+pub add_stream-requires-in-Cold : goal.add_stream-requires-in-Cold
+add_stream-requires-in-Cold c =
     let item = item_sound c.args.self.now _ _ c.streams-s-items.ensures c.loop-s-test.true in
     record { sound = item.0; fits = λ d l. omega (arith, c.loop-s.invariant.1.few d l) }
 
@@ -26,20 +26,20 @@ loop-s-preserved c =
     elim c.match-s.branch [
       | in-Hot w ↦
           rw (w.supply-is, w.demand-is) (
-            summed_more Hot 0 _ _ _ _ c.loop-s-test.true w.in-Hot.is item.0.3 w.add-stream.ensures c.loop-s.invariant.0,
+            summed_more Hot 0 _ _ _ _ c.loop-s-test.true w.in-Hot.is item.0.3 w.add_stream.ensures c.loop-s.invariant.0,
             summed_past Cold _ _ _ _ c.loop-s-test.true (λ e. cold_not_hot (sym e ∙ w.in-Hot.is)) c.loop-s.invariant.1,
           )
       | in-Cold w ↦
           rw (w.supply-is, w.demand-is) (
             summed_past Hot _ _ _ _ c.loop-s-test.true (λ e. cold_not_hot (sym w.in-Cold.is ∙ e)) c.loop-s.invariant.0,
-            summed_more Cold _ _ _ _ _ c.loop-s-test.true w.in-Cold.is item.0.3 w.add-stream-in-Cold.ensures c.loop-s.invariant.1,
+            summed_more Cold _ _ _ _ _ c.loop-s-test.true w.in-Cold.is item.0.3 w.add_stream-in-Cold.ensures c.loop-s.invariant.1,
           )
     ]
 
-pub invariant-of-result : goal.invariant-of-result
-invariant-of-result c =
+pub invariant_of-result : goal.invariant_of-result
+invariant_of-result c =
     let few : length c.streams-s-items.result.now ≤ 64 = items_few c.args.self.now _ c.streams-s-items.ensures in
-    (λ d l. omega (arith, c.loop-s.invariant.0.few d l), (λ d l. omega (arith, c.loop-s.invariant.1.few d l), tt))
+    record { supply_few = λ d l. omega (arith, c.loop-s.invariant.0.few d l); demand_few = λ d l. omega (arith, c.loop-s.invariant.1.few d l) }
 
 pub returns : goal.returns
 returns c =
