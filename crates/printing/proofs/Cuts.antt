@@ -1,11 +1,9 @@
 -- A cut at a text, one byte at a time.
-use Rattle.std.proofs.Common.{◌≡◌, ℕ, ◌+◌, ◌-◌, ◌<◌, ◌≤◌, Bool, true, false, List, [], ◌∷◌, ◌++◌, length, get_or, take, drop, Some, None, Decides, Option, sym, refl, ap, ◌∙◌, arith, rules}
-use Rattle.std.proofs.lemmas.Slice.Eq.{slice_eq-Decides, bytes_eq-Decides}
+use Rattle.std.proofs.Common.{◌≡◌, ℕ, ◌+◌, ◌-◌, ◌<◌, ◌≤◌, Bool, true, false, List, [], ◌∷◌, ◌++◌, length, get_or, take, drop, Some, None, Option, sym, refl, ap, ◌∙◌, arith}
 use Rattle.std.proofs.lemmas.List.{append_assoc, append-nil, take_more, drop_more, drop_all, take_rest, length-drop}
 use Rattle.std.proofs.lemmas.Bool.{cond-true, cond-false}
 use Rattle.std.specs.Str.{bytes_eq}
 use Rattle.printing.specs.ReadBack.{begins, ahead, cut}
-use Rattle.std.proofs.lemmas.Bool.Decides.{Decides-eqb}
 
 -- what is put before a cut in two steps, or not at all
 ahead_more : (xs : List ℕ) (y : ℕ) (o : Option (List ℕ × List ℕ)) → ahead xs (ahead (y ∷ []) o) ≡ ahead (xs ++ (y ∷ [])) o
@@ -62,11 +60,11 @@ abbrev rest_of : List ℕ → ℕ → List ℕ
 rest_of bs i = take (length bs - i) (drop i bs)
 
 pub not_here : (text bs : List ℕ) (i : ℕ) (r : Bool) → i < length bs → r ≡ false → Equal text (take (length text) (rest_of bs i)) r → Passed text bs i → Passed text bs (i + 1)
-not_here text bs i r l t h inv = cut_more text bs i l (ap (begins text) (sym (take_rest bs i)) ∙ same_as _ _ r h ∙ t) inv
+not_here text bs i r l t h inv = cut_more text bs i l (ap (begins text) (sym (take_rest bs i)) ∙ same_as text (take (length text) (rest_of bs i)) r h ∙ t) inv
 
 pub here : (text bs : List ℕ) (i : ℕ) (r : Bool) → i < length bs → r ≡ true → Equal text (take (length text) (rest_of bs i)) r → Passed text bs i →
     cut text bs ≡ Some (take i bs, rest_of (rest_of bs i) (length text))
 here text bs i r l t h inv =
     let some : 0 < length (drop i bs) = omega (arith, length-drop i bs) in
-    cut_found text bs i some (ap (begins text) (sym (take_rest bs i)) ∙ same_as _ _ r h ∙ t) inv
+    cut_found text bs i some (ap (begins text) (sym (take_rest bs i)) ∙ same_as text (take (length text) (rest_of bs i)) r h ∙ t) inv
     ∙ ap (λ zs. Some (take i bs, zs)) (ap (drop (length text)) (sym (take_rest bs i)) ∙ sym (take_rest (rest_of bs i) (length text)))

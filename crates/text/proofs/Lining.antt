@@ -1,8 +1,8 @@
 -- A text, one line at a time.
-use Rattle.std.proofs.Common.{◌≡◌, ℕ, suc, ◌+◌, ◌<◌, ◌≤◌, Bool, true, false, cond, eqb, List, [], ◌∷◌, length, Some, None, Ok, Err, Option, Result, sym, refl, ap, ◌∙◌, arith, Bor}
+use Rattle.std.proofs.Common.{◌≡◌, ℕ, ◌+◌, ◌≤◌, Bool, true, false, cond, eqb, List, [], ◌∷◌, length, Some, None, Ok, Err, Option, sym, refl, ap, ◌∙◌, arith, Bor}
 use Rattle.lexing.specs.Lexing.{lines, words, uncommented, onto_first, LineAndRest}
 use Rattle.grammar.specs.declared.statements.Statement.{Statement}
-use Rattle.grammar.specs.Statements.{then, statement}
+use Rattle.grammar.specs.Statements.{statement}
 use Rattle.text.specs.declared.problem.Problem.{Problem}
 use Rattle.text.specs.declared.turned.Turned.{Turned}
 use Rattle.text.specs.declared.turned.Turned.TheVariants.{Unreadable, Refused, NoMemory}

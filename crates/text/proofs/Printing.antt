@@ -1,5 +1,5 @@
 -- From what the planner answers to what is printed.
-use Rattle.std.proofs.Common.{◌≡◌, ℕ, ◌*◌, Bool, true, false, cond, List, [], ◌∷◌, ◌++◌, take, Some, None, Ok, Err, vec_items, unwrap_or, sym, refl, ap, ◌∙◌}
+use Rattle.std.proofs.Common.{◌≡◌, ℕ, ◌*◌, Bool, true, false, cond, List, [], ◌++◌, take, Some, Ok, vec_items, unwrap_or, sym, ◌∙◌}
 use Rattle.std.proofs.lemmas.List.{append-nil}
 use Rattle.streams.specs.declared.refusals.Refusal.{Refusal}
 use Rattle.streams.specs.Rules.{refusal_with_room}

@@ -1,5 +1,5 @@
 -- What is printed for a text.
-use Rattle.std.specs.Prelude.{◌≡◌, ℕ, ◌*◌, cond, List, [], ◌∷◌, ◌++◌, take, replicate, Some, None, Ok, Err, string_bytes, Result, String, slice_index_or}
+use Rattle.std.specs.Prelude.{◌≡◌, ℕ, ◌*◌, cond, List, [], ◌++◌, take, replicate, Some, Ok, Err, string_bytes, Result, String, slice_index_or}
 use Rattle.std.specs.Option.{unwrap_or}
 use Rattle.std.specs.declared.alloc.Global.{Global}
 use Rattle.streams.specs.Rules.{refusal_with_room}

@@ -1,5 +1,5 @@
 -- What a text asks, line by line.
-use Rattle.std.specs.Prelude.{◌≡◌, ℕ, ◌+◌, Bool, true, false, cond, List, [], ◌∷◌, ◌++◌, Some, None, Ok, Err, vec_items, Option, Result, slice_index}
+use Rattle.std.specs.Prelude.{◌≡◌, ℕ, ◌+◌, Bool, true, false, List, [], ◌∷◌, ◌++◌, Some, None, Ok, Err, vec_items, Option, Result, slice_index}
 use Rattle.streams.specs.declared.model.Kind.{Kind}
 use Rattle.streams.specs.declared.model.Kind.TheVariants.{Hot, Cold}
 use Rattle.streams.specs.declared.model.Stream.{Stream}

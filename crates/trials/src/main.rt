@@ -14,6 +14,7 @@ use crate::examine::{Answer, Finding, untouched};
 use crate::families::FAMILIES;
 use crate::lists::{List, Shape};
 use crate::random::Random;
+use anyhow::anyhow;
 use plans::{Done, plan};
 use std::alloc::{AllocError, Global};
 
@@ -98,7 +99,7 @@ fn complain(rt: &HostRuntime, list: &List, what: &'static str) -> anyhow::Result
     }
     let gap = list.gap;
     println!(rt; "gap {gap}")?;
-    Err(what.into())
+    Err(anyhow!("{what}"))
 }
 
 // So many lists of one shape.

@@ -1,9 +1,9 @@
 // The program: reads a text from the file that is named, or from standard input, and prints the answer or why there is none.
 #![tactic(auto)]
 
-use anyhow::anyhow;
 use std::alloc::AllocError;
 use std::io::Read;
+use std::process::ExitCode;
 use std::{env, fs, io};
 
 const HELP: &str = "wethumbal FILE [LINE]...  what has to be bought for the streams in FILE;
@@ -31,7 +31,7 @@ A text that can't be used is answered on standard error by
 `turned away NUMBER at PLACE: ` and a sentence, with exit status 1.
 ";
 
-const VERSION: &str = "wethumbal 0.1.0, proved with rattle-kit-8b logic 7f726aa041520687\n";
+const VERSION: &str = "wethumbal 0.1.0, proved with rattle-kit-13f logic dac8208d650f15bf\n";
 
 // All bytes of the file that is named, or of standard input.
 fn input(rt: &HostRuntime, name: &str) -> io::Result<Vec<u8>> {
@@ -88,13 +88,13 @@ fn run(rt: &HostRuntime) -> anyhow::Result<bool> {
     Ok(answer(rt, text.as_slice())?)
 }
 
-fn main(rt: HostRuntime) -> anyhow::Result<()> {
+fn main(rt: HostRuntime) -> io::Result<ExitCode> {
     match run(&rt) {
-        Ok(true) => Ok(()),
-        Ok(false) => Err(anyhow!("turned away")),
+        Ok(true) => Ok(ExitCode::SUCCESS),
+        Ok(false) => Ok(ExitCode::FAILURE),
         Err(e) => {
             eprintln!(rt; "wethumbal: there is no answer: {e}")?;
-            Err(e)
+            Ok(ExitCode::FAILURE)
         }
     }
 }
