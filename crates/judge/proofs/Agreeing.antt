@@ -1,6 +1,6 @@
 -- Every plan that is in order and feasible is found good, and so is what the planner promises.
 use Rattle.std.proofs.Common.{◌≡◌, ℕ, zero, suc, ◌+◌, ◌*◌, ◌%◌, ◌<◌, ◌≤◌, Bool, true, false, not, eqb, ltb, List, [], ◌∷◌, length, take, drop, Some, None, Option, refl, ap, ◌∙◌, arith}
-use Rattle.std.specs.List.{AllByRecursion as All}
+use Rattle.std.specs.List.{AllByRecursion}
 use Rattle.std.proofs.ByRecursion.{All-take, All-weaker}
 use Rattle.std.proofs.lemmas.List.{take_at, length-append}
 use Rattle.std.proofs.lemmas.Bool.{not-false, eqb-true, ltb-false, eq-eqb}
@@ -24,7 +24,7 @@ ordered_front (suc n) [] o = tt
 ordered_front (suc n) (t ∷ ts) o = (o.0, All-take (Before t) n ts o.1, ordered_front n ts o.2)
 
 -- each transfer is part of what goes from its place to its place
-counted : (ts : List Transfer) → All (λ t. t.heat ≤ moved ts t.from t.to) ts
+counted : (ts : List Transfer) → AllByRecursion (λ t. t.heat ≤ moved ts t.from t.to) ts
 unfolding moved
 counted [] = tt
 counted (t ∷ ts) = (
@@ -32,8 +32,8 @@ counted (t ∷ ts) = (
   All-weaker (λ u. u.heat ≤ moved ts u.from u.to) (λ u. u.heat ≤ moved (t ∷ ts) u.from u.to) (λ u l. omega arith) ts (counted ts),
 )
 
-none_rises : (m : ℕ → ℕ → ℕ) (ts : List Transfer) → All Proper ts → All (λ t. t.heat ≤ m t.from t.to) ts →
-    ((d e : ℕ) → d < 1000 → e < 1000 → d < e → m d e ≡ 0) → All (λ t. Rises t → ⊥) ts
+none_rises : (m : ℕ → ℕ → ℕ) (ts : List Transfer) → AllByRecursion Proper ts → AllByRecursion (λ t. t.heat ≤ m t.from t.to) ts →
+    ((d e : ℕ) → d < 1000 → e < 1000 → d < e → m d e ≡ 0) → AllByRecursion (λ t. Rises t → ⊥) ts
 none_rises m [] p c z = tt
 none_rises m (t ∷ ts) p c z =
     (λ r. omega (arith, p.0.something, c.0, z t.from t.to (omega (arith, r.0, r.1)) r.0 r.1), none_rises m ts p.1 c.1 z)

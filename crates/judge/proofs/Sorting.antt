@@ -1,6 +1,6 @@
 -- The order of transfers: what follows its neighbour stands behind all before it.
 use Rattle.std.proofs.Common.{◌≡◌, ℕ, suc, ◌+◌, ◌<◌, Bool, true, false, cond, not, ◌&&◌, eqb, ltb, ◌⊎◌, List, [], ◌∷◌, length, take, Some, None, Decides, Option, sym, refl, inl, inr, add-one, arith}
-use Rattle.std.specs.List.{AllByRecursion as All}
+use Rattle.std.specs.List.{AllByRecursion}
 use Rattle.std.proofs.ByRecursion.{All-weaker}
 use Rattle.std.proofs.lemmas.Bool.{cases_lt, false≢true}
 use Rattle.std.proofs.lemmas.Bool.Decides.{Decides-eqb, Decides-ltb, Decides-like, Decides-not, Decides-and, Decides-or}
@@ -43,7 +43,7 @@ is_next a b t =
 
 -- all in order, and behind the one from a to b
 abbrev pub Sorted : ℕ → ℕ → List Transfer → Type 0
-Sorted a b ts = InOrder ts × All (Below a b) ts
+Sorted a b ts = InOrder ts × AllByRecursion (Below a b) ts
 
 lower : (a b : ℕ) (t u : Transfer) → Below a b t → Before t u → Below a b u
 lower a b t u (inl l) (inl k) = inl (omega arith)
@@ -93,7 +93,7 @@ some_out ts i e =
     let q : i ≡ f.0 = omega (arith, f.1) in
     rw (add-one, q) (f.2, f.3.0, λ o. f.4 (sorted _ o))
 
-falling : (ts : List Transfer) → All Proper ts → All (λ t. Rises t → ⊥) ts → All Falling ts
+falling : (ts : List Transfer) → AllByRecursion Proper ts → AllByRecursion (λ t. Rises t → ⊥) ts → AllByRecursion Falling ts
 falling [] p n = tt
 falling (t ∷ ts) p n = (
   elim p.0.to_place [
@@ -108,7 +108,7 @@ pub feasible : (xs : List ℕ) (gap : ℕ) (ts : List Transfer) → InOrder ts �
     Feasible 1000 (supply_of (streams_in xs)) (demand_of gap (streams_in xs)) (plan_of ts)
 unfolding plan_of
 feasible xs gap ts o b =
-    let p : All Proper ts = proper ts o.ordered in
+    let p : AllByRecursion Proper ts = proper ts o.ordered in
     record {
       gives = λ d l. omega (arith, row ts d p, (b d l).gives);
       gets = λ e l. omega (arith, column ts e p, (b e l).gets);

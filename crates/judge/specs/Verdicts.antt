@@ -1,6 +1,6 @@
 -- What each verdict on an adviser's plan says.
 use Rattle.std.specs.Prelude.{◌≡◌, ℕ, ◌+◌, ◌*◌, ◌%◌, ◌<◌, ◌≤◌, List, [], ◌∷◌, length, take}
-use Rattle.std.specs.List.{AllByRecursion as All}
+use Rattle.std.specs.List.{AllByRecursion}
 use Rattle.streams.specs.Heat.{supply_of, demand_of}
 use Rattle.streams.specs.Rules.{streams_in}
 use Rattle.targets.specs.Plans.{Feasible}
@@ -38,7 +38,7 @@ Rises t = (t.to < 1000) × (t.from < t.to)
 -- each is proper and stands before all that follow, and none rises
 pub record InOrder (ts : List Transfer) : Type 0 where
   pub ordered : Ordered ts
-  pub none_rises : All (λ t. Rises t → ⊥) ts
+  pub none_rises : AllByRecursion (λ t. Rises t → ⊥) ts
 
 -- degree d gives all that it has and gets all that it wants
 pub record Balanced (xs : List ℕ) (gap : ℕ) (ts : List Transfer) (d : ℕ) : Type 0 where

@@ -1,6 +1,6 @@
 -- The plan that transfers make, from what each place has sent and got.
 use Rattle.std.proofs.Common.{◌≡◌, ℕ, zero, suc, ◌+◌, ◌<◌, ◌≤◌, Bool, true, false, cond, ◌&&◌, eqb, ltb, List, [], ◌∷◌, ◌++◌, length, refl, inl, inr, arith}
-use Rattle.std.specs.List.{AllByRecursion as All}
+use Rattle.std.specs.List.{AllByRecursion}
 use Rattle.std.proofs.lemmas.List.{length-append}
 use Rattle.std.proofs.ByRecursion.{All-append, All-weaker}
 use Rattle.std.proofs.lemmas.Bool.{cases_lt, cases_eq, eq-eqb, ne_eqb, lt-ltb, le-ltb}
@@ -47,7 +47,7 @@ column_one : (b : Bool) (t x : ℕ) → Place t → sum_below 1000 (λ d. cond (
 column_one true t x p = simp and_true (at_a_place t x p)
 column_one false t x p = simp and_false (row_one false t x p)
 
-pub row : (ts : List Transfer) (a : ℕ) → All Proper ts → sum_below 1000 (moved ts a) + moved ts a outside ≡ sent ts a
+pub row : (ts : List Transfer) (a : ℕ) → AllByRecursion Proper ts → sum_below 1000 (moved ts a) + moved ts a outside ≡ sent ts a
 unfolding moved sent
 row [] a p = omega (arith, sum_zero 1000 (moved [] a) (λ i l. refl))
 row (t ∷ ts) a p =
@@ -59,7 +59,7 @@ row (t ∷ ts) a p =
       row ts a p.1,
     )
 
-pub column : (ts : List Transfer) (b : ℕ) → All Proper ts → sum_below 1000 (λ d. moved ts d b) + moved ts outside b ≡ got ts b
+pub column : (ts : List Transfer) (b : ℕ) → AllByRecursion Proper ts → sum_below 1000 (λ d. moved ts d b) + moved ts outside b ≡ got ts b
 unfolding moved got
 column [] b p = omega (arith, sum_zero 1000 (λ d. moved [] d b) (λ i l. refl))
 column (t ∷ ts) b p =
@@ -78,23 +78,23 @@ nowhere a b d e x n =
       | inr p ↦ rw (ne_eqb a d p) refl
     ]
 
-pub down : (ts : List Transfer) (d e : ℕ) → All Falling ts → d < e → e < 1000 → moved ts d e ≡ 0
+pub down : (ts : List Transfer) (d e : ℕ) → AllByRecursion Falling ts → d < e → e < 1000 → moved ts d e ≡ 0
 unfolding moved
 down [] d e f l k = refl
 down (t ∷ ts) d e f l k =
     let n : t.from ≡ d → t.to ≡ e → ⊥ = λ p q. elim f.0 [ inl g ↦ omega arith | inr g ↦ omega arith ] in
     omega (arith, nowhere t.from t.to d e t.heat n, down ts d e f.1 l k)
 
-not_through : (ts : List Transfer) → All Proper ts → moved ts outside outside ≡ 0
+not_through : (ts : List Transfer) → AllByRecursion Proper ts → moved ts outside outside ≡ 0
 unfolding moved
 not_through [] p = refl
 not_through (t ∷ ts) p = omega (arith, nowhere t.from t.to outside outside t.heat p.0.apart, not_through ts p.1)
 
-pub proper : (ts : List Transfer) → Ordered ts → All Proper ts
+pub proper : (ts : List Transfer) → Ordered ts → AllByRecursion Proper ts
 proper [] o = tt
 proper (t ∷ ts) o = (o.0, proper ts o.2)
 
-got_none : (ts : List Transfer) (e : ℕ) → e < 1000 → All (λ t. t.to ≡ outside) ts → got ts e ≡ 0
+got_none : (ts : List Transfer) (e : ℕ) → e < 1000 → AllByRecursion (λ t. t.to ≡ outside) ts → got ts e ≡ 0
 unfolding got
 got_none [] e l a = refl
 got_none (t ∷ ts) e l a = rw (ne_eqb t.to e (λ q. omega arith)) (omega (arith, got_none ts e l a.1))
@@ -106,9 +106,9 @@ laid_out h c heating n m r old room part room₁ free roomy s p w =
     let ts : List Transfer = s.ts ++ p.ts in
     let o : Ordered ts
     = ordered_append s.ts p.ts s.ordered p.ordered
-    (All-weaker (λ t. t.to ≡ outside) (λ t. All (Before t) p.ts) (λ t e. All-weaker (λ u. u.to < 1000) (Before t) (λ u l. inl (omega arith)) p.ts p.degrees) s.ts s.river) in
-    let pr : All Proper ts = proper ts o in
-    let f : All Falling ts = All-append Falling s.ts p.ts (All-weaker (λ t. t.to ≡ outside) Falling (λ t e. inr e) s.ts s.river) p.falling in
+    (All-weaker (λ t. t.to ≡ outside) (λ t. AllByRecursion (Before t) p.ts) (λ t e. All-weaker (λ u. u.to < 1000) (Before t) (λ u l. inl (omega arith)) p.ts p.degrees) s.ts s.river) in
+    let pr : AllByRecursion Proper ts = proper ts o in
+    let f : AllByRecursion Falling ts = All-append Falling s.ts p.ts (All-weaker (λ t. t.to ≡ outside) Falling (λ t e. inr e) s.ts s.river) p.falling in
     record {
       transfers = ts;
       count = w.count;

@@ -1,6 +1,6 @@
 -- What goes to the river, degree by degree from the top.
 use Rattle.std.proofs.Common.{◌≡◌, ℕ, suc, ◌+◌, ◌-◌, ◌*◌, ◌<◌, ◌≤◌, min, List, [], ◌++◌, length, sym, refl, ap, inl, inr, arith}
-use Rattle.std.specs.List.{AllByRecursion as All}
+use Rattle.std.specs.List.{AllByRecursion}
 use Rattle.std.proofs.ByRecursion.{All-weaker}
 use Rattle.std.proofs.lemmas.Bool.{cases_lt, cases_eq, eq-eqb, ne_eqb}
 use Rattle.streams.specs.Heat.{sum_from}
@@ -15,7 +15,7 @@ pub record Rejecting (h : ℕ → ℕ) (heating wanted d g n : ℕ) (old room : 
   pub ts : List Transfer
   pub written : Put n old room ts
   pub ordered : Ordered ts
-  pub river : All (λ t. (t.to ≡ outside) × (d ≤ t.from)) ts
+  pub river : AllByRecursion (λ t. (t.to ≡ outside) × (d ≤ t.from)) ts
   pub given_is : g ≡ heating + sum_from 1000 d h
   pub given_few : g ≤ heating + (1000 - d) * 64000000
   pub done : (e : ℕ) → d ≤ e → e < 1000 → sent ts e ≡ spare h heating wanted e

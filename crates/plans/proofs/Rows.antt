@@ -1,6 +1,6 @@
 -- Transfers in a list: what all come to, and their order.
 use Rattle.std.proofs.Common.{◌≡◌, ℕ, ◌+◌, ◌<◌, ◌≤◌, Bool, true, false, cond, eqb, List, [], ◌∷◌, ◌++◌, length, sym, refl, ap, ◌∙◌, inl, inr, arith}
-use Rattle.std.specs.List.{AllByRecursion as All}
+use Rattle.std.specs.List.{AllByRecursion}
 use Rattle.std.proofs.ByRecursion.{All-append, All-weaker}
 use Rattle.std.proofs.lemmas.Bool.{cases_eq, cases_lt, eq-eqb, ne_eqb, lt-ltb, le-ltb, cases_order}
 use Rattle.plans.specs.declared.transfers.Transfer.{Transfer}
@@ -48,22 +48,22 @@ got_more ts t b =
 pub some_few : (t : Transfer) → length (some t) ≤ 1
 some_few t = elim (cases_eq t.heat 0) [ inl e ↦ rw (some_none t e) (omega arith) | inr n ↦ rw (some_one t n) (omega arith) ]
 
-pub all_some : (P : Transfer → Type 0) (t : Transfer) → (1 ≤ t.heat → P t) → All P (some t)
+pub all_some : (P : Transfer → Type 0) (t : Transfer) → (1 ≤ t.heat → P t) → AllByRecursion P (some t)
 all_some P t f = elim (cases_eq t.heat 0) [ inl e ↦ rw (some_none t e) tt | inr n ↦ rw (some_one t n) (f (omega arith), tt) ]
 
-pub all_more : (P : Transfer → Type 0) (ts : List Transfer) (t : Transfer) → All P ts → (1 ≤ t.heat → P t) → All P (ts ++ some t)
+pub all_more : (P : Transfer → Type 0) (ts : List Transfer) (t : Transfer) → AllByRecursion P ts → (1 ≤ t.heat → P t) → AllByRecursion P (ts ++ some t)
 all_more P ts t a f = All-append P ts (some t) a (all_some P t f)
 
-pub ordered_append : (ts us : List Transfer) → Ordered ts → Ordered us → All (λ t. All (Before t) us) ts → Ordered (ts ++ us)
+pub ordered_append : (ts us : List Transfer) → Ordered ts → Ordered us → AllByRecursion (λ t. AllByRecursion (Before t) us) ts → Ordered (ts ++ us)
 ordered_append [] us o v b = v
 ordered_append (t ∷ ts) us o v b = (o.0, All-append (Before t) ts us o.1 b.0, ordered_append ts us o.2 v b.1)
 
 alone : (t : Transfer) → (1 ≤ t.heat → Proper t) → Ordered (some t)
 alone t f = elim (cases_eq t.heat 0) [ inl e ↦ rw (some_none t e) tt | inr n ↦ rw (some_one t n) (f (omega arith), tt, tt) ]
 
-pub ordered_more : (ts : List Transfer) (t : Transfer) → Ordered ts → All (Above t.from t.to) ts → (1 ≤ t.heat → Proper t) → Ordered (ts ++ some t)
+pub ordered_more : (ts : List Transfer) (t : Transfer) → Ordered ts → AllByRecursion (Above t.from t.to) ts → (1 ≤ t.heat → Proper t) → Ordered (ts ++ some t)
 ordered_more ts t o a f =
-    ordered_append ts (some t) o (alone t f) (All-weaker (Above t.from t.to) (λ u. All (Before u) (some t)) (λ u b. all_some (Before u) t (λ _. b)) ts a)
+    ordered_append ts (some t) o (alone t f) (All-weaker (Above t.from t.to) (λ u. AllByRecursion (Before u) (some t)) (λ u b. all_some (Before u) t (λ _. b)) ts a)
 
 -- marks
 pub mark_degree : (d : ℕ) → d < 1000 → mark d ≡ d

@@ -1,6 +1,6 @@
 -- The loop that meets what is wanted, turn by turn.
 use Rattle.std.proofs.Common.{◌≡◌, ℕ, suc, ◌+◌, ◌-◌, ◌*◌, ◌<◌, ◌≤◌, min, ◌⊎◌, List, [], ◌++◌, length, sym, refl, ap, inl, inr, arith}
-use Rattle.std.specs.List.{AllByRecursion as All}
+use Rattle.std.specs.List.{AllByRecursion}
 use Rattle.std.proofs.ByRecursion.{All-weaker}
 use Rattle.std.proofs.lemmas.Bool.{cases_lt}
 use Rattle.streams.specs.Heat.{sum_from}
@@ -28,9 +28,9 @@ pub record Serving (h c : ℕ → ℕ) (heating from hot to cold n : ℕ) (old r
   pub written : Put n old room ts
   pub line : Line (given h heating) (wants c) from hot to cold ts
   pub ordered : Ordered ts
-  pub degrees : All (λ t. t.to < 1000) ts
-  pub falling : All Falling ts
-  pub ahead : All (Above (mark from) to) ts
+  pub degrees : AllByRecursion (λ t. t.to < 1000) ts
+  pub falling : AllByRecursion Falling ts
+  pub ahead : AllByRecursion (Above (mark from) to) ts
   pub over : to ≤ from
   pub from_top : from ≤ 1000
   pub to_top : to < 1000
@@ -43,9 +43,9 @@ pub record Laid (h c : ℕ → ℕ) (heating from hot to cold n : ℕ) (old room
   pub written : Put n old room ts
   pub line : Line (given h heating) (wants c) from hot to cold ts
   pub ordered : Ordered ts
-  pub degrees : All (λ t. t.to < 1000) ts
-  pub falling : All Falling ts
-  pub ahead : (a b : ℕ) → Past from to a b → All (Above (mark a) b) ts
+  pub degrees : AllByRecursion (λ t. t.to < 1000) ts
+  pub falling : AllByRecursion Falling ts
+  pub ahead : (a b : ℕ) → Past from to a b → AllByRecursion (Above (mark a) b) ts
   pub over : to ≤ from
   pub from_top : from ≤ 1000
   pub to_top : to < 1000

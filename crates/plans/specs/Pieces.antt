@@ -1,6 +1,6 @@
 -- Pieces of the planner's work; inner notions, which no public promise cites.
 use Rattle.std.specs.Prelude.{◌≡◌, ℕ, ◌+◌, ◌-◌, ◌*◌, ◌<◌, ◌≤◌, min, cond, ◌⊎◌, List, [], ◌∷◌, ◌++◌, length, take, drop, ◌==◌}
-use Rattle.std.specs.List.{AllByRecursion as All}
+use Rattle.std.specs.List.{AllByRecursion}
 use Rattle.streams.specs.Heat.{sum_from}
 use Rattle.plans.specs.declared.transfers.Transfer.{Transfer}
 use Rattle.plans.specs.Transfers.{outside, flat, sent, got, Ordered}
@@ -31,7 +31,7 @@ pub record Rejected (h : ℕ → ℕ) (heating wanted n : ℕ) (room room₁ : L
   pub ts : List Transfer
   pub written : Put n room room₁ ts
   pub ordered : Ordered ts
-  pub river : All (λ t. t.to ≡ outside) ts
+  pub river : AllByRecursion (λ t. t.to ≡ outside) ts
   pub sent_is : (d : ℕ) → d < 1000 → sent ts d ≡ spare h heating wanted d
   pub boiler : sent ts outside ≡ 0
   pub small : n ≤ 1000
@@ -46,8 +46,8 @@ pub record Served (h c : ℕ → ℕ) (heating n : ℕ) (room room₁ : List ℕ
   pub ts : List Transfer
   pub written : Put n room room₁ ts
   pub ordered : Ordered ts
-  pub degrees : All (λ t. t.to < 1000) ts
-  pub falling : All Falling ts
+  pub degrees : AllByRecursion (λ t. t.to < 1000) ts
+  pub falling : AllByRecursion Falling ts
   pub sent_is : (d : ℕ) → d < 1000 → sent ts d + spare h heating (sum_from 1000 0 c) d ≡ h d
   pub boiler : sent ts outside ≡ heating
   pub got_is : (e : ℕ) → e < 1000 → got ts e ≡ c e

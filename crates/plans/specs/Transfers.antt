@@ -1,6 +1,6 @@
 -- Transfers: how they stand in the room, in which order, and the plan that they make.
 use Rattle.std.specs.Prelude.{◌≡◌, ℕ, ◌+◌, ◌<◌, ◌≤◌, cond, ◌&&◌, ◌⊎◌, List, [], ◌∷◌, ◌==◌, ◌≢◌, nat_lt}
-use Rattle.std.specs.List.{flat_map, AllByRecursion as All}
+use Rattle.std.specs.List.{flat_map, AllByRecursion}
 use Rattle.targets.specs.Plans.{Plan}
 use Rattle.plans.specs.declared.transfers.Transfer.{Transfer}
 
@@ -58,4 +58,4 @@ Before t u = Above u.from u.to t
 -- each is proper, and stands before all that follow: so none of the same two stands twice
 abbrev pub Ordered : List Transfer → Type 0
 Ordered [] = Unit {0}
-Ordered (t ∷ ts) = Proper t × All (Before t) ts × Ordered ts
+Ordered (t ∷ ts) = Proper t × AllByRecursion (Before t) ts × Ordered ts

@@ -1,7 +1,7 @@
 -- Laws of what streams give and take: one stream more, bounds, whole streams, another order, a stream cut in two.
 use Rattle.std.proofs.Common.{◌≡◌, ℕ, zero, suc, ◌+◌, ◌-◌, ◌*◌, ◌≤◌, min, Bool, true, false, cond, ◌&&◌, leb, List, [], ◌∷◌, ◌++◌, length, sum_by, sym, refl, ap, ◌∙◌, inl, inr, arith}
 use Rattle.std.specs.List.Sorted.{IsPermutation}
-use Rattle.std.specs.List.{AllByRecursion as All}
+use Rattle.std.specs.List.{AllByRecursion}
 use Rattle.std.proofs.lemmas.List.Sums.{sum_by-cons}
 use Rattle.std.proofs.lemmas.List.Sorted.{sum_by-IsPermutation}
 use Rattle.std.proofs.lemmas.Bool.{cases_lt, lt-ltb, le-ltb, le-leb, lt-leb}
@@ -33,7 +33,7 @@ heat_le k shift s d = cond_le (is s.kind k && within (s.low + shift) (s.high + s
     cond_le true n = omega arith
     cond_le false n = omega arith
 
-pub load_le : (k : Kind) (shift most : ℕ) (ss : List Stream) (d : ℕ) → All (λ s. s.rate ≤ most) ss → load k shift ss d ≤ length ss * most
+pub load_le : (k : Kind) (shift most : ℕ) (ss : List Stream) (d : ℕ) → AllByRecursion (λ s. s.rate ≤ most) ss → load k shift ss d ≤ length ss * most
 load_le k shift most [] d a = omega (arith, load_none k shift d)
 load_le k shift most (s ∷ ss) d a =
     let more : length (s ∷ ss) * most ≡ most + length ss * most = omega arith in
@@ -115,6 +115,6 @@ unfolding load
 sum_load_cons k shift s ss n = sum_add n (heat k shift s) (load k shift ss)
 
 -- nothing is lost below a top that the streams stay under
-pub load_whole : (k : Kind) (shift : ℕ) (ss : List Stream) (n : ℕ) → All (λ s. s.high + shift ≤ n) ss → sum_below n (load k shift ss) ≡ whole k ss
+pub load_whole : (k : Kind) (shift : ℕ) (ss : List Stream) (n : ℕ) → AllByRecursion (λ s. s.high + shift ≤ n) ss → sum_below n (load k shift ss) ≡ whole k ss
 load_whole k shift [] n a = sum_zero n (load k shift []) (λ i l. load_none k shift i)
 load_whole k shift (s ∷ ss) n a = omega (arith, sum_load_cons k shift s ss n, heat_whole k shift s n a.0, load_whole k shift ss n a.1)

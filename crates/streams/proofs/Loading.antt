@@ -1,6 +1,6 @@
 -- One stream more, of what the streams of one kind come to in a degree.
 use Rattle.std.proofs.Common.{◌≡◌, ℕ, ◌+◌, ◌*◌, ◌<◌, ◌≤◌, true, false, cond, List, length, get_or, drop, refl, ap, ◌∙◌, arith}
-use Rattle.std.specs.List.{AllByRecursion as All}
+use Rattle.std.specs.List.{AllByRecursion}
 use Rattle.std.proofs.ByRecursion.{All-from_get_or}
 use Rattle.std.proofs.lemmas.List.{at_drop_more, at_drop_all, length-take, get_or-take}
 use Rattle.streams.specs.declared.model.Kind.{Kind}
@@ -83,7 +83,7 @@ item_sound t items i e l =
 pub items_few : (t : StreamTable) (items : List Stream) → items ≡ listed t → length items ≤ 64
 items_few t items e = omega (arith, ap length e, length-take t.count t.streams, t.few)
 
-below_top : (t : StreamTable) (shift : ℕ) → shift ≤ t.gap → All (λ s. s.high + shift ≤ 1000) (listed t)
+below_top : (t : StreamTable) (shift : ℕ) → shift ≤ t.gap → AllByRecursion (λ s. s.high + shift ≤ 1000) (listed t)
 below_top t shift l =
     All-from_get_or (λ s. s.high + shift ≤ 1000) (listed t) blank
     (λ i h. let item = item_sound t (listed t) i refl h in omega arith)

@@ -1,6 +1,6 @@
 -- What a gap means: a smaller one never needs more, and what passes keeps it.
 use Rattle.std.proofs.Common.{◌≡◌, ℕ, ◌+◌, ◌-◌, ◌*◌, ◌<◌, ◌≤◌, min, Bool, true, false, cond, ltb, leb, List, [], ◌∷◌, sym, refl, ap, ◌∙◌, inl, inr, mul-le-mul_left, arith}
-use Rattle.std.specs.List.{ContainsAt as Has}
+use Rattle.std.specs.List.{ContainsAt}
 use Rattle.std.proofs.ByRecursion.{has_append_right}
 use Rattle.std.proofs.lemmas.Bool.{cases_lt, leb-true, ltb-true, and_parts}
 use Rattle.streams.specs.declared.model.Kind.{Kind}
@@ -62,7 +62,7 @@ smaller_gap top small large ss l fit =
 -- a stream of kind k that has heat in degree d
 record Source (k : Kind) (shift : ℕ) (ss : List Stream) (d : ℕ) : Type 0 where
   pub stream : Stream
-  pub listed : Has ss stream
+  pub listed : ContainsAt ss stream
   pub kind_is : stream.kind ≡ k
   pub from_low : stream.low + shift ≤ d
   pub to_high : d < stream.high + shift

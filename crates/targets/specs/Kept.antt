@@ -1,6 +1,6 @@
 -- What a gap means: in the streams' own temperatures, and for what has to be bought.
 use Rattle.std.specs.Prelude.{◌≡◌, ℕ, suc, ◌+◌, ◌<◌, ◌≤◌, List, [], ◌∷◌}
-use Rattle.std.specs.List.{ContainsAt as Has}
+use Rattle.std.specs.List.{ContainsAt}
 use Rattle.streams.specs.declared.model.Kind.TheVariants.{Hot, Cold}
 use Rattle.streams.specs.declared.model.Stream.{Stream}
 use Rattle.streams.specs.Heat.{supply_of, demand_of}
@@ -11,12 +11,12 @@ use Rattle.targets.specs.Plans.{Plan, Feasible}
 -- least the gap above the same ends of c
 pub record Kept (gap : ℕ) (ss : List Stream) (d e : ℕ) : Type 0 where
   pub hot : Stream
-  pub hot_listed : Has ss hot
+  pub hot_listed : ContainsAt ss hot
   pub hot_kind : hot.kind ≡ Hot
   pub hot_low : hot.low ≤ d
   pub hot_high : d < hot.high
   pub cold : Stream
-  pub cold_listed : Has ss cold
+  pub cold_listed : ContainsAt ss cold
   pub cold_kind : cold.kind ≡ Cold
   pub c : ℕ
   pub c_is : c + gap ≡ e
