@@ -34,3 +34,10 @@ Answered text (Ok s) = PrintedFor text (string_bytes s)
 Answered text (Err (Unreadable i f)) = asked_in text ≡ Err i
 Answered text (Err (Refused e i l)) = (a : Asked) × (asked_in text ≡ Ok a) × (refusal_with_room a.numbers (unwrap_or a.gap 0) empty_room ≡ Some e) × (i ≡ line_of a e)
 Answered text (Err NoMemory) = Unit {0}
+
+-- a refusal by a rule carries the line at its place, as it is quoted
+abbrev pub Quotes : List ℕ → Result (String Global) Turned → Type 0
+Quotes text (Ok s) = Unit {0}
+Quotes text (Err (Unreadable i f)) = Unit {0}
+Quotes text (Err (Refused e i l)) = l.now ≡ quoted text i
+Quotes text (Err NoMemory) = Unit {0}

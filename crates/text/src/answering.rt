@@ -1,7 +1,7 @@
 // From text to printed text.
 ghost use Rattle.std.specs.Prelude.{◌≡◌, [], slice_index_or};
 ghost use Rattle.lexing.specs.Lexing.{lines};
-ghost use Rattle.text.specs.Answered.{quoted, Answered};
+ghost use Rattle.text.specs.Answered.{quoted, Answered, Quotes};
 
 use crate::reading::read_problem;
 use crate::turned::Turned;
@@ -35,7 +35,8 @@ fn quote(text: &[u8], place: usize) -> &[u8]
 
 // What is printed for a text, or why it is turned away.
 pub fn answer(heap: Global, text: &[u8]) -> Result<String, Turned<'_>>
-    ensures { Answered text.now result }
+    ensures answered { Answered text.now result }
+    ensures quotes { Quotes text.now result }
 {
     let problem = read_problem(heap, text)?;
     let mut room = [0; 6000];

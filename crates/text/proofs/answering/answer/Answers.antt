@@ -6,8 +6,8 @@ use Rattle.text.proofs.Printing.{with_lines, without_lines, printed_for, refused
 use Rattle.text.proofs.answering.answer.Goals as goal
 use Rattle.text.proofs.answering.answer.Goals.{then-problem+in_ok-push_transfers-in-Ok, else-problem}
 
-pub returns-in-Ok : goal.returns-in-Ok
-returns-in-Ok c =
+pub returns-in-Ok-clause-answered : goal.returns-in-Ok-clause-answered
+returns-in-Ok-clause-answered c =
     printed_for c.args.text.now c.in_ok-problem.problem c.as_slice.result.now c.unwrap_or-gap.result c.in_ok-problem.ensures c.as_slice.ensures.value c.unwrap_or-gap.ensures
     c.in-Ok.written c.write_plan.new.room _ c.in-Ok.ensures
     (elim c.if-problem.branch [
@@ -18,7 +18,7 @@ returns-in-Ok c =
       | else-problem w ↦ without_lines (first_line_bytes c.in-Ok.written.targets) _ _ _ w.if-problem.false (ap (λ (t : String Global). string_bytes t) w.out-is ∙ c.in_ok-out-in-Ok.ensures)
     ])
 
-pub returns : goal.returns
-returns c =
+pub returns-clause-answered : goal.returns-clause-answered
+returns-clause-answered c =
     refused_for c.args.text.now c.in_ok-problem.problem c.as_slice.result.now c.unwrap_or-gap.result c.in_ok-problem.ensures c.as_slice.ensures.value c.unwrap_or-gap.ensures
     c.in-Err.refusal _ c.in-Err.ensures.0 c.place_of-place.ensures
