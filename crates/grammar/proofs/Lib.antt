@@ -1,1 +1,2 @@
-mod Saying
+mod Words
+mod Showing

@@ -1,2 +1,4 @@
 pub mod Keywords
+pub mod Sentences
+pub mod Shown
 pub mod Statements

@@ -1,5 +1,5 @@
 -- What the words of a line say; a line that can't be read says None.
-use Rattle.std.specs.Prelude.{ℕ, List, [], ◌∷◌, Some, None, Option}
+use Rattle.std.specs.Prelude.{ℕ, List, [], ◌∷◌, Some, None, Option, option_and_then}
 use Rattle.streams.specs.declared.model.Kind.{Kind}
 use Rattle.streams.specs.declared.model.Kind.TheVariants.{Hot, Cold}
 use Rattle.streams.specs.declared.model.Stream.{Stream}
@@ -13,15 +13,17 @@ use Rattle.grammar.specs.Keywords.{keyword_in}
 abbrev pub Words : Type 0
 Words = List (List ℕ)
 
--- what is read first, and then what follows
-abbrev pub then : {X Y : Type 0} → Option X → (X → Option Y) → Option Y
-then None f = None
-then (Some x) f = f x
+-- what is read first, and then what follows, as `?` goes on
+infixl 10 ◌>>=◌
+abbrev pub ◌>>=◌ : {X Y : Type 0} → Option X → (X → Option Y) → Option Y
+o >>= f = option_and_then f o
 
 -- a number, and the words behind it
 abbrev pub number_and_rest : Words → Option (ℕ × Words)
 number_and_rest [] = None
-number_and_rest (w ∷ ws) = then (number_in w) (λ n. Some (n, ws))
+number_and_rest (w ∷ ws) = do
+  n ← number_in w
+  Some (n, ws)
 
 -- nothing more
 abbrev pub done : Words → Option (Unit {0})
@@ -35,19 +37,35 @@ stream_of Cold from to rate = record { kind = Cold; low = from; high = to; rate 
 
 -- three numbers are a stream, one is the gap
 unfoldable pub stream_said : Kind → Words → Option Stream
-stream_said k ws = then (number_and_rest ws) (λ a. then (number_and_rest a.1) (λ b. then (number_and_rest b.1) (λ c. then (done c.1) (λ _. Some (stream_of k a.0 b.0 c.0)))))
+stream_said k ws = do
+  a ← number_and_rest ws
+  b ← number_and_rest a.1
+  c ← number_and_rest b.1
+  _ ← done c.1
+  Some (stream_of k a.0 b.0 c.0)
 
 unfoldable pub gap_said : Words → Option ℕ
-gap_said ws = then (number_and_rest ws) (λ a. then (done a.1) (λ _. Some a.0))
+gap_said ws = do
+  a ← number_and_rest ws
+  _ ← done a.1
+  Some a.0
 
 -- what the words behind a keyword say
 unfoldable pub said : Keyword → Words → Option Statement
-said keywords.Hot ws = then (stream_said Hot ws) (λ s. Some (statements.Stream s))
-said keywords.Cold ws = then (stream_said Cold ws) (λ s. Some (statements.Stream s))
-said keywords.Gap ws = then (gap_said ws) (λ g. Some (statements.Gap g))
-said keywords.Plan ws = then (done ws) (λ _. Some statements.Plan)
+said (keywords.Stream k) ws = do
+  s ← stream_said k ws
+  Some (statements.Stream s)
+said keywords.Gap ws = do
+  g ← gap_said ws
+  Some (statements.Gap g)
+said keywords.Plan ws = do
+  _ ← done ws
+  Some statements.Plan
 
 -- a line without words says nothing
 unfoldable pub statement : Words → Option (Option Statement)
 statement [] = Some None
-statement (w ∷ ws) = then (keyword_in w) (λ k. then (said k ws) (λ s. Some (Some s)))
+statement (w ∷ ws) = do
+  k ← keyword_in w
+  s ← said k ws
+  Some (Some s)

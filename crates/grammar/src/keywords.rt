@@ -2,26 +2,26 @@
 ghost use Rattle.std.specs.Prelude.{◌≡◌};
 ghost use Rattle.grammar.specs.Keywords.{keyword_in};
 
+use streams::Kind;
+
+// What a line is about: a stream of some kind, the gap, or the plan.
 #[derive(Clone, Copy)]
 pub(crate) enum Keyword {
-    Hot,
-    Cold,
+    Stream(Kind),
     Gap,
     Plan,
 }
 
+// The keyword that a word is, if it is one.
+#[tactic(auto, using(crate::proofs::Words::no_keyword), unfolding(crate::specs::Keywords::keyword_in))]
 pub(crate) fn find_keyword(word: &[u8]) -> Option<Keyword>
     ensures { result ≡ keyword_in word.now }
 {
-    if word == b"hot".as_slice() {
-        Some(Keyword::Hot)
-    } else if word == b"cold".as_slice() {
-        Some(Keyword::Cold)
-    } else if word == b"gap".as_slice() {
-        Some(Keyword::Gap)
-    } else if word == b"plan".as_slice() {
-        Some(Keyword::Plan)
-    } else {
-        None
+    match str::from_utf8(word).ok()? {
+        "hot" => Some(Keyword::Stream(Kind::Hot)),
+        "cold" => Some(Keyword::Stream(Kind::Cold)),
+        "gap" => Some(Keyword::Gap),
+        "plan" => Some(Keyword::Plan),
+        _ => None,
     }
 }

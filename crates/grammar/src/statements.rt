@@ -16,7 +16,7 @@ pub enum Statement {
 }
 
 // What is wrong with a line that can't be read; the words are the line's own.
-#[derive(Clone, Copy)]
+#[derive(Clone, Copy, Debug, PartialEq, Eq)]
 pub enum LineFault<'a> {
     UnknownWord(&'a [u8]),
     NumberMissing,
@@ -30,13 +30,9 @@ pub enum LineFault<'a> {
 fn next_number(text: &[u8]) -> Result<(u32, &[u8]), LineFault<'_>>
     ensures { MatchResult result (λ x. number_and_rest (words text.now) ≡ Some (x.0, words x.1.now)) (λ _. number_and_rest (words text.now) ≡ None) }
 {
-    let Some((word, rest)) = split_word(text) else {
-        return Err(LineFault::NumberMissing);
-    };
-    match number(word) {
-        Some(value) => Ok((value, rest)),
-        None => Err(LineFault::NotANumber(word)),
-    }
+    let (word, rest) = split_word(text).ok_or(LineFault::NumberMissing)?;
+    let value = number(word).ok_or(LineFault::NotANumber(word))?;
+    Ok((value, rest))
 }
 
 // Nothing more comes.
@@ -50,6 +46,7 @@ fn finish(text: &[u8]) -> Result<(), LineFault<'_>>
 }
 
 // A stream is written from and to in the way it goes: a hot one from its higher temperature, a cold one from its lower.
+#[tactic(auto, unfolding(crate::specs::Statements::stream_said))]
 fn read_stream(kind: Kind, text: &[u8]) -> Result<Stream, LineFault<'_>>
     ensures { MatchResult result (λ s. stream_said kind (words text.now) ≡ Some s) (λ _. stream_said kind (words text.now) ≡ None) }
 {
@@ -70,12 +67,12 @@ fn read_stream(kind: Kind, text: &[u8]) -> Result<Stream, LineFault<'_>>
 }
 
 // What the words behind a keyword say.
+#[tactic(auto, unfolding(crate::specs::Statements::gap_said, crate::specs::Statements::said))]
 fn read_statement(keyword: Keyword, text: &[u8]) -> Result<Statement, LineFault<'_>>
     ensures { MatchResult result (λ s. said keyword (words text.now) ≡ Some s) (λ _. said keyword (words text.now) ≡ None) }
 {
     match keyword {
-        Keyword::Hot => Ok(Statement::Stream(read_stream(Kind::Hot, text)?)),
-        Keyword::Cold => Ok(Statement::Stream(read_stream(Kind::Cold, text)?)),
+        Keyword::Stream(kind) => Ok(Statement::Stream(read_stream(kind, text)?)),
         Keyword::Gap => {
             let (gap, text) = next_number(text)?;
             finish(text)?;
@@ -89,6 +86,7 @@ fn read_statement(keyword: Keyword, text: &[u8]) -> Result<Statement, LineFault<
 }
 
 // What a line says, if it is no blank or comment.
+#[tactic(auto, unfolding(crate::specs::Statements::statement))]
 pub fn read_line(line: &[u8]) -> Result<Option<Statement>, LineFault<'_>>
     ensures { MatchResult result (λ s. statement (words (uncommented line.now)) ≡ Some s) (λ _. statement (words (uncommented line.now)) ≡ None) }
 {

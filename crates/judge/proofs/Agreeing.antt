@@ -1,5 +1,5 @@
 -- Every plan that is in order and feasible is found good, and so is what the planner promises.
-use Rattle.std.proofs.Common.{◌≡◌, ℕ, zero, suc, ◌+◌, ◌*◌, ◌%◌, ◌<◌, ◌≤◌, Bool, true, false, not, eqb, ltb, List, [], ◌∷◌, length, take, drop, Some, None, Option, refl, ap, ◌∙◌, arith}
+use Rattle.std.proofs.Common.{◌≡◌, ℕ, zero, suc, ◌+◌, ◌*◌, ◌%◌, ◌<◌, ◌≤◌, Bool, true, false, not, eqb, ltb, List, [], ◌∷◌, length, take, drop, Some, None, Option, Ok, Err, Result, refl, ap, ◌∙◌, arith}
 use Rattle.std.specs.List.{AllByRecursion}
 use Rattle.std.proofs.ByRecursion.{All-take, All-weaker}
 use Rattle.std.proofs.lemmas.List.{take_at, length-append}
@@ -13,8 +13,8 @@ use Rattle.plans.specs.Transfers.{flat, moved, plan_of, Proper, Before, Ordered}
 use Rattle.plans.specs.Promise.{LaidOut}
 use Rattle.plans.proofs.Made.{row, column, proper}
 use Rattle.plans.proofs.Room.{length_flat}
-use Rattle.judge.specs.declared.verdicts.Verdict.{Verdict}
-use Rattle.judge.specs.declared.verdicts.Verdict.TheVariants.{Good, Unfit, OutOfOrder, Unbalanced}
+use Rattle.judge.specs.declared.flaws.Flaw.{Flaw}
+use Rattle.judge.specs.declared.flaws.Flaw.TheVariants.{Unfit, OutOfOrder, Unbalanced}
 use Rattle.judge.specs.Verdicts.{transfers_in, advised, Fit, Rises, InOrder, Balanced, Judged, Just}
 
 -- the front of what is in order is in order
@@ -47,14 +47,14 @@ balanced : (xs : List ℕ) (gap : ℕ) (ts : List Transfer) (d : ℕ) → d < 10
 unfolding plan_of
 balanced xs gap ts d l o f = record { gives = omega (arith, row ts d (proper ts o), f.gives d l); gets = omega (arith, column ts d (proper ts o), f.gets d l) }
 
-good : (xs : List ℕ) (gap : ℕ) (room : List ℕ) (n : ℕ) (v : Verdict) → Judged xs gap room n v → Fit xs room n → Ordered (advised room n) →
-    Feasible 1000 (supply_of (streams_in xs)) (demand_of gap (streams_in xs)) (plan_of (advised room n)) → v ≡ Good
-good xs gap room n Good j fit o f = refl
-good xs gap room n Unfit j fit o f = absurd (j fit)
-good xs gap room n (OutOfOrder i) j fit o f =
+good : (xs : List ℕ) (gap : ℕ) (room : List ℕ) (n : ℕ) (v : Result (Unit {0}) Flaw) → Judged xs gap room n v → Fit xs room n → Ordered (advised room n) →
+    Feasible 1000 (supply_of (streams_in xs)) (demand_of gap (streams_in xs)) (plan_of (advised room n)) → v ≡ Ok tt
+good xs gap room n (Ok _) j fit o f = refl
+good xs gap room n (Err Unfit) j fit o f = absurd (j fit)
+good xs gap room n (Err (OutOfOrder i)) j fit o f =
     let all : InOrder (advised room n) = in_order (supply_of (streams_in xs)) (demand_of gap (streams_in xs)) (advised room n) o f in
     absurd (j.3 (record { ordered = ordered_front (i + 1) (advised room n) o; none_rises = All-take (λ t. Rises t → ⊥) (i + 1) (advised room n) all.none_rises }))
-good xs gap room n (Unbalanced d) j fit o f = absurd (j.4 (balanced xs gap (advised room n) d j.2 o f))
+good xs gap room n (Err (Unbalanced d)) j fit o f = absurd (j.4 (balanced xs gap (advised room n) d j.2 o f))
 
 -- what stands in the room is read as it was written
 read_back : (ts : List Transfer) → transfers_in (flat ts) ≡ ts
@@ -82,7 +82,7 @@ streams_fit xs gap old e =
     let c = when_none (ltb 256 (length xs)) _ _ b.1 in
     (eqb-true (length xs % 4) 0 (not-false _ b.0), ltb-false 256 (length xs) c.0)
 
-pub just : (xs : List ℕ) (gap : ℕ) (room : List ℕ) (n : ℕ) (v : Verdict) → Judged xs gap room n v → Just xs gap room n v
+pub just : (xs : List ℕ) (gap : ℕ) (room : List ℕ) (n : ℕ) (v : Result (Unit {0}) Flaw) → Judged xs gap room n v → Just xs gap room n v
 just xs gap room n v j =
     record {
       any_good = good xs gap room n v j;

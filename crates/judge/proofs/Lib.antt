@@ -1,4 +1,6 @@
 mod Adding
+mod Reading
 mod Sorting
 mod Passing
+mod Judging
 mod Agreeing

@@ -1,38 +1,32 @@
--- Transfers in threes, one at a time, up to the first that is out of order.
-use Rattle.std.proofs.Common.{◌≡◌, ℕ, ◌+◌, ◌*◌, ◌<◌, ◌≤◌, true, false, cond, List, length, drop, Some, None, sym, refl, ap, ◌∙◌, arith}
-use Rattle.std.proofs.lemmas.List.{take_rest, length-drop}
+-- Transfers one at a time, up to the first that is out of order.
+use Rattle.std.proofs.Common.{◌≡◌, ℕ, ◌+◌, ◌<◌, ◌≤◌, true, false, cond, List, [], ◌∷◌, length, get_or, drop, slice_index, Some, None, Option, sym, ap, ◌∙◌, add-one, drop-cons}
+use Rattle.std.proofs.lemmas.List.{drop_all}
 use Rattle.plans.specs.declared.transfers.Transfer.{Transfer}
-use Rattle.streams.proofs.Fours.{next}
-use Rattle.judge.specs.Verdicts.{transfer_in, transfers_in}
-use Rattle.judge.specs.Pieces.{follows, disorder}
-use Rattle.judge.proofs.Adding.{behind_first, transfers_more, transfers_none}
+use Rattle.judge.specs.Verdicts.{transfer_in}
+use Rattle.judge.specs.Pieces.{transfers_of, follows, disorder}
 
--- so many are in order, the last of them from a to b: what is first out of order is so among those that are left
-pub record Passing (xs : List ℕ) (a b count : ℕ) (rest : List ℕ) : Type 0 where
-  pub left : 3 * count + length rest ≡ length xs
-  pub same : disorder a b count (transfers_in rest) ≡ disorder 0 65536 0 (transfers_in xs)
+abbrev pub transfer_at : List (List ℕ) → ℕ → Transfer
+transfer_at threes i = let t = get_or threes i [] in transfer_in (slice_index t 0) (slice_index t 1) (slice_index t 2)
 
-pub passing_none : (xs : List ℕ) → Passing xs 0 65536 0 xs
-passing_none xs = record { left = omega arith; same = refl }
+-- the rest of what a pass goes through, from place i on
+abbrev pub rest : ℕ → List (List ℕ) → List Transfer
+rest i threes = transfers_of (drop i threes)
 
-abbrev pub first_of : List ℕ → Transfer
-first_of rest = transfer_in (next rest 0) (next rest 1) (next rest 2)
-
-one_more : (a b count : ℕ) (rest : List ℕ) → 3 ≤ length rest → disorder a b count (transfers_in rest)
-    ≡ cond (follows a b (first_of rest)) (disorder (next rest 0) (next rest 1) (count + 1) (transfers_in (drop 3 rest))) (Some count)
+one_more : (before : Option Transfer) (i : ℕ) (threes : List (List ℕ)) (t : Transfer) → i < length threes → t ≡ transfer_at threes i →
+    disorder before i (rest i threes) ≡ cond (follows before t) (disorder (Some t) (i + 1) (rest (i + 1) threes)) (Some i)
 unfolding disorder
-one_more a b count rest l = ap (disorder a b count) (transfers_more rest l)
+one_more before i threes t l e =
+    let d : drop i threes ≡ get_or threes i [] ∷ drop (i + 1) threes = rw add-one (drop-cons threes i [] l) in
+    ap (disorder before i) (ap transfers_of d ∙ ap (λ u. u ∷ rest (i + 1) threes) (sym e))
 
-pub passing_more : (xs : List ℕ) (a b count : ℕ) (rest : List ℕ) → 3 ≤ length rest → follows a b (first_of rest) ≡ true → Passing xs a b count rest →
-    Passing xs (next rest 0) (next rest 1) (count + 1) (behind_first 3 rest)
-passing_more xs a b count rest l e p =
-    rw (take_rest rest 3)
-    (record { left = omega (arith, p.left, length-drop 3 rest); same = sym (rw e at (one_more a b count rest l)) ∙ p.same })
+pub goes_on : (before : Option Transfer) (i : ℕ) (threes : List (List ℕ)) (t : Transfer) → i < length threes → t ≡ transfer_at threes i → follows before t ≡ true →
+    disorder before i (rest i threes) ≡ disorder (Some t) (i + 1) (rest (i + 1) threes)
+goes_on before i threes t l e f = rw f at (one_more before i threes t l e)
 
-pub passing_stops : (xs : List ℕ) (a b count : ℕ) (rest : List ℕ) → 3 ≤ length rest → follows a b (first_of rest) ≡ false → Passing xs a b count rest →
-    Some count ≡ disorder 0 65536 0 (transfers_in xs)
-passing_stops xs a b count rest l e p = sym (rw e at (one_more a b count rest l)) ∙ p.same
+pub stops : (before : Option Transfer) (i : ℕ) (threes : List (List ℕ)) (t : Transfer) → i < length threes → t ≡ transfer_at threes i → follows before t ≡ false →
+    disorder before i (rest i threes) ≡ Some i
+stops before i threes t l e f = rw f at (one_more before i threes t l e)
 
-pub passing_all : (xs : List ℕ) (a b count : ℕ) (rest : List ℕ) → length rest < 3 → Passing xs a b count rest → None ≡ disorder 0 65536 0 (transfers_in xs)
+pub ends : (before : Option Transfer) (i : ℕ) (threes : List (List ℕ)) → length threes ≤ i → disorder before i (rest i threes) ≡ None
 unfolding disorder
-passing_all xs a b count rest l p = sym (ap (disorder a b count) (transfers_none rest l)) ∙ p.same
+ends before i threes l = ap (λ xs. disorder before i (transfers_of xs)) (drop_all i threes l)

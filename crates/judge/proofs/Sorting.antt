@@ -1,5 +1,5 @@
 -- The order of transfers: what follows its neighbour stands behind all before it.
-use Rattle.std.proofs.Common.{◌≡◌, ℕ, suc, ◌+◌, ◌<◌, Bool, true, false, cond, not, ◌&&◌, eqb, ltb, ◌⊎◌, List, [], ◌∷◌, length, take, Some, None, Decides, Option, sym, refl, inl, inr, add-one, arith}
+use Rattle.std.proofs.Common.{◌≡◌, ℕ, suc, ◌+◌, ◌<◌, Bool, true, false, cond, not, ◌&&◌, eqb, ltb, List, [], ◌∷◌, length, take, Some, None, Decides, Option, refl, inl, inr, add-one, arith}
 use Rattle.std.specs.List.{AllByRecursion}
 use Rattle.std.proofs.ByRecursion.{All-weaker}
 use Rattle.std.proofs.lemmas.Bool.{cases_lt, false≢true}
@@ -12,11 +12,12 @@ use Rattle.plans.specs.Transfers.{outside, plan_of, Place, Proper, Before}
 use Rattle.plans.specs.Pieces.{Falling}
 use Rattle.plans.proofs.Made.{row, column, down, proper}
 use Rattle.judge.specs.Verdicts.{Rises, InOrder, Balanced}
-use Rattle.judge.specs.Pieces.{placed, fair, rising, follows, disorder}
+use Rattle.judge.specs.Pieces.{placed, fair, rising, behind_any, follows, disorder}
 
--- it stands behind the one from a to b
-abbrev pub Below : ℕ → ℕ → Transfer → Type 0
-Below a b t = (t.to < b) ⊎ ((t.to ≡ b) × (t.from < a))
+-- it stands behind the one before it, if there is one
+abbrev pub Behind : Option Transfer → Transfer → Type 0
+Behind None t = Unit {0}
+Behind (Some before) t = Before before t
 
 is_placed : (a : ℕ) → Decides (placed a) (Place a)
 is_placed a = Decides-or (ltb a 1000) (eqb a outside) (Decides-ltb a 1000) (Decides-eqb a outside)
@@ -31,65 +32,66 @@ is_fair_lem t =
     (Decides-and (placed t.to) _ (is_placed t.to)
     (Decides-not (eqb t.from outside && eqb t.to outside) (Decides-and (eqb t.from outside) _ (Decides-eqb t.from outside) (Decides-eqb t.to outside))))))
 
-abbrev pub Follows : ℕ → ℕ → Transfer → Type 0
-Follows a b t = Proper t × ((Rises t → ⊥) × Below a b t)
+is_behind_lem : (o : Option Transfer) (t : Transfer) → Decides (behind_any o t) (Behind o t)
+is_behind_lem None t = (λ e. tt, λ b. refl)
+is_behind_lem (Some s) t = Decides-or (ltb t.to s.to) _ (Decides-ltb t.to s.to) (Decides-and (eqb t.to s.to) _ (Decides-eqb t.to s.to) (Decides-ltb t.from s.from))
 
-is_next : (a b : ℕ) (t : Transfer) → Decides (follows a b t) (Follows a b t)
-is_next a b t =
+abbrev pub Follows : Option Transfer → Transfer → Type 0
+Follows o t = Proper t × ((Rises t → ⊥) × Behind o t)
+
+is_next : (o : Option Transfer) (t : Transfer) → Decides (follows o t) (Follows o t)
+is_next o t =
     Decides-and (fair t) _ (is_fair_lem t)
-    (Decides-and (not (rising t.from t.to)) _
-    (Decides-not (rising t.from t.to) (Decides-and (ltb t.to 1000) _ (Decides-ltb t.to 1000) (Decides-ltb t.from t.to)))
-    (Decides-or (ltb t.to b) _ (Decides-ltb t.to b) (Decides-and (eqb t.to b) _ (Decides-eqb t.to b) (Decides-ltb t.from a))))
+    (Decides-and (not (rising t)) _
+    (Decides-not (rising t) (Decides-and (ltb t.to 1000) _ (Decides-ltb t.to 1000) (Decides-ltb t.from t.to)))
+    (is_behind_lem o t))
 
--- all in order, and behind the one from a to b
-abbrev pub Sorted : ℕ → ℕ → List Transfer → Type 0
-Sorted a b ts = InOrder ts × AllByRecursion (Below a b) ts
+-- all in order, and behind the one before them
+abbrev pub Sorted : Option Transfer → List Transfer → Type 0
+Sorted o ts = InOrder ts × AllByRecursion (Behind o) ts
 
-lower : (a b : ℕ) (t u : Transfer) → Below a b t → Before t u → Below a b u
-lower a b t u (inl l) (inl k) = inl (omega arith)
-lower a b t u (inl l) (inr k) = inl (omega arith)
-lower a b t u (inr l) (inl k) = inl (omega arith)
-lower a b t u (inr l) (inr k) = inr (omega arith, omega arith)
+lower : (o : Option Transfer) (t u : Transfer) → Behind o t → Before t u → Behind o u
+lower None t u b k = tt
+lower (Some s) t u (inl l) (inl k) = inl (omega arith)
+lower (Some s) t u (inl l) (inr k) = inl (omega arith)
+lower (Some s) t u (inr l) (inl k) = inl (omega arith)
+lower (Some s) t u (inr l) (inr k) = inr (omega arith, omega arith)
 
-sorted_more : (a b : ℕ) (t : Transfer) (ts : List Transfer) → Follows a b t → Sorted t.from t.to ts → Sorted a b (t ∷ ts)
-sorted_more a b t ts f s =
-    (record { ordered = (f.0, s.1, s.0.ordered); none_rises = (f.1.0, s.0.none_rises) }, (f.1.1, All-weaker (Before t) (Below a b) (λ u. lower a b t u f.1.1) ts s.1))
+sorted_more : (o : Option Transfer) (t : Transfer) (ts : List Transfer) → Follows o t → Sorted (Some t) ts → Sorted o (t ∷ ts)
+sorted_more o t ts f s =
+    (record { ordered = (f.0, s.1, s.0.ordered); none_rises = (f.1.0, s.0.none_rises) }, (f.1.1, All-weaker (Before t) (Behind o) (λ u. lower o t u f.1.1) ts s.1))
 
-sorted_less : (a b : ℕ) (t : Transfer) (ts : List Transfer) → Sorted a b (t ∷ ts) → Follows a b t × Sorted t.from t.to ts
-sorted_less a b t ts s =
+sorted_less : (o : Option Transfer) (t : Transfer) (ts : List Transfer) → Sorted o (t ∷ ts) → Follows o t × Sorted (Some t) ts
+sorted_less o t ts s =
     ((s.0.ordered.0, (s.0.none_rises.0, s.1.0)), (record { ordered = s.0.ordered.2; none_rises = s.0.none_rises.1 }, s.0.ordered.1))
 
--- the first that is out of order, where i were there already, the last of them from a to b
-abbrev pub FirstOut : ℕ → ℕ → ℕ → List Transfer → Option ℕ → Type 0
-FirstOut a b i ts None = Sorted a b ts
-FirstOut a b i ts (Some k) = (j : ℕ) × (k ≡ i + j) × (j < length ts) × Sorted a b (take j ts) × (Sorted a b (take (suc j) ts) → ⊥)
+-- the first that is out of order, where i were there already
+abbrev pub FirstOut : Option Transfer → ℕ → List Transfer → Option ℕ → Type 0
+FirstOut o i ts None = Sorted o ts
+FirstOut o i ts (Some k) = (j : ℕ) × (k ≡ i + j) × (j < length ts) × Sorted o (take j ts) × (Sorted o (take (suc j) ts) → ⊥)
 
-out_more : (a b i : ℕ) (t : Transfer) (ts : List Transfer) (r : Bool) (o : Option ℕ) → Decides r (Follows a b t) → FirstOut t.from t.to (i + 1) ts o →
-    FirstOut a b i (t ∷ ts) (cond r o (Some i))
-out_more a b i t ts true None d f = sorted_more a b t ts (d.0 refl) f
-out_more a b i t ts true (Some k) d f =
-    (suc f.0, omega (arith, f.1), omega (arith, f.2), sorted_more a b t (take f.0 ts) (d.0 refl) f.3, λ s. f.4 (sorted_less a b t (take (suc f.0) ts) s).1)
-out_more a b i t ts false o d f =
-    (0, omega arith, omega arith, (record { ordered = tt; none_rises = tt }, tt), λ s. false≢true (d.1 (sorted_less a b t [] s).0))
+out_more : (o : Option Transfer) (i : ℕ) (t : Transfer) (ts : List Transfer) (r : Bool) (out : Option ℕ) → Decides r (Follows o t) → FirstOut (Some t) (i + 1) ts out →
+    FirstOut o i (t ∷ ts) (cond r out (Some i))
+out_more o i t ts true None d f = sorted_more o t ts (d.0 refl) f
+out_more o i t ts true (Some k) d f =
+    (suc f.0, omega (arith, f.1), omega (arith, f.2), sorted_more o t (take f.0 ts) (d.0 refl) f.3, λ s. f.4 (sorted_less o t (take (suc f.0) ts) s).1)
+out_more o i t ts false out d f =
+    (0, omega arith, omega arith, (record { ordered = tt; none_rises = tt }, tt), λ s. false≢true (d.1 (sorted_less o t [] s).0))
 
-first_out : (a b i : ℕ) (ts : List Transfer) → FirstOut a b i ts (disorder a b i ts)
+first_out : (o : Option Transfer) (i : ℕ) (ts : List Transfer) → FirstOut o i ts (disorder o i ts)
 unfolding disorder
-first_out a b i [] = (record { ordered = tt; none_rises = tt }, tt)
-first_out a b i (t ∷ ts) = out_more a b i t ts (follows a b t) (disorder t.from t.to (i + 1) ts) (is_next a b t) (first_out t.from t.to (i + 1) ts)
+first_out o i [] = (record { ordered = tt; none_rises = tt }, tt)
+first_out o i (t ∷ ts) = out_more o i t ts (follows o t) (disorder (Some t) (i + 1) ts) (is_next o t) (first_out (Some t) (i + 1) ts)
 
--- all places are below the mark above all
-under : (t : Transfer) → Proper t → Below 0 65536 t
-under t p = elim p.to_place [ inl l ↦ inl (omega arith) | inr e ↦ inl (omega arith) ]
+sorted : (ts : List Transfer) → InOrder ts → Sorted None ts
+sorted ts o = (o, All-weaker Proper (Behind None) (λ t p. tt) ts (proper ts o.ordered))
 
-sorted : (ts : List Transfer) → InOrder ts → Sorted 0 65536 ts
-sorted ts o = (o, All-weaker Proper (Below 0 65536) under ts (proper ts o.ordered))
+pub none_out : (ts : List Transfer) → disorder None 0 ts ≡ None → InOrder ts
+none_out ts e = (rw e at (first_out None 0 ts)).0
 
-pub none_out : (ts : List Transfer) → None ≡ disorder 0 65536 0 ts → InOrder ts
-none_out ts e = (rw (sym e) at (first_out 0 65536 0 ts)).0
-
-pub some_out : (ts : List Transfer) (i : ℕ) → Some i ≡ disorder 0 65536 0 ts → (i < length ts) × InOrder (take i ts) × (InOrder (take (i + 1) ts) → ⊥)
+pub some_out : (ts : List Transfer) (i : ℕ) → disorder None 0 ts ≡ Some i → (i < length ts) × InOrder (take i ts) × (InOrder (take (i + 1) ts) → ⊥)
 some_out ts i e =
-    let f : FirstOut 0 65536 0 ts (Some i) = rw (sym e) at (first_out 0 65536 0 ts) in
+    let f : FirstOut None 0 ts (Some i) = rw e at (first_out None 0 ts) in
     let q : i ≡ f.0 = omega (arith, f.1) in
     rw (add-one, q) (f.2, f.3.0, λ o. f.4 (sorted _ o))
 

@@ -1,5 +1,5 @@
 -- What each verdict on an adviser's plan says.
-use Rattle.std.specs.Prelude.{◌≡◌, ℕ, ◌+◌, ◌*◌, ◌%◌, ◌<◌, ◌≤◌, List, [], ◌∷◌, length, take}
+use Rattle.std.specs.Prelude.{◌≡◌, ℕ, ◌+◌, ◌*◌, ◌%◌, ◌<◌, ◌≤◌, List, [], ◌∷◌, length, take, Ok, Err, Result}
 use Rattle.std.specs.List.{AllByRecursion}
 use Rattle.streams.specs.Heat.{supply_of, demand_of}
 use Rattle.streams.specs.Rules.{streams_in}
@@ -8,8 +8,8 @@ use Rattle.plans.specs.declared.entry.Done.TheVariants.{Planned}
 use Rattle.plans.specs.declared.transfers.Transfer.{Transfer}
 use Rattle.plans.specs.Transfers.{plan_of, Ordered, sent, got}
 use Rattle.plans.specs.Promise.{Promise}
-use Rattle.judge.specs.declared.verdicts.Verdict.{Verdict}
-use Rattle.judge.specs.declared.verdicts.Verdict.TheVariants.{Good, Unfit, OutOfOrder, Unbalanced}
+use Rattle.judge.specs.declared.flaws.Flaw.{Flaw}
+use Rattle.judge.specs.declared.flaws.Flaw.TheVariants.{Unfit, OutOfOrder, Unbalanced}
 
 -- three numbers are a transfer: from, to, how much
 abbrev pub transfer_in : ℕ → ℕ → ℕ → Transfer
@@ -47,17 +47,17 @@ pub record Balanced (xs : List ℕ) (gap : ℕ) (ts : List Transfer) (d : ℕ) :
 
 -- the plan is in order and feasible; or nothing can be judged; or the transfers before i are in order, and with i they aren't; or all are in order,
 -- every degree above d balances, and d doesn't
-abbrev pub Judged : List ℕ → ℕ → (room : List ℕ) → ℕ → Verdict → Type 0
-Judged xs gap room n Good =
+abbrev pub Judged : List ℕ → ℕ → (room : List ℕ) → ℕ → Result (Unit {0}) Flaw → Type 0
+Judged xs gap room n (Ok _) =
     Fit xs room n × Ordered (advised room n) × Feasible 1000 (supply_of (streams_in xs)) (demand_of gap (streams_in xs)) (plan_of (advised room n))
-Judged xs gap room n Unfit = Fit xs room n → ⊥
-Judged xs gap room n (OutOfOrder i) =
+Judged xs gap room n (Err Unfit) = Fit xs room n → ⊥
+Judged xs gap room n (Err (OutOfOrder i)) =
     Fit xs room n × (i < n) × InOrder (take i (advised room n)) × (InOrder (take (i + 1) (advised room n)) → ⊥)
-Judged xs gap room n (Unbalanced d) =
+Judged xs gap room n (Err (Unbalanced d)) =
     Fit xs room n × InOrder (advised room n) × (d < 1000) × ((k : ℕ) → d < k → k < 1000 → Balanced xs gap (advised room n) k)
     × (Balanced xs gap (advised room n) d → ⊥)
 
 -- no plan that is in order and feasible is found wanting, and none that the planner promises
-pub record Just (xs : List ℕ) (gap : ℕ) (room : List ℕ) (n : ℕ) (v : Verdict) : Type 0 where
-  pub any_good : Fit xs room n → Ordered (advised room n) → Feasible 1000 (supply_of (streams_in xs)) (demand_of gap (streams_in xs)) (plan_of (advised room n)) → v ≡ Good
-  pub planned : (old : List ℕ) (heating : ℕ) → Promise xs gap old (Planned n heating) room → v ≡ Good
+pub record Just (xs : List ℕ) (gap : ℕ) (room : List ℕ) (n : ℕ) (v : Result (Unit {0}) Flaw) : Type 0 where
+  pub any_good : Fit xs room n → Ordered (advised room n) → Feasible 1000 (supply_of (streams_in xs)) (demand_of gap (streams_in xs)) (plan_of (advised room n)) → v ≡ Ok tt
+  pub planned : (old : List ℕ) (heating : ℕ) → Promise xs gap old (Planned n heating) room → v ≡ Ok tt

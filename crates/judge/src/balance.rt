@@ -1,90 +1,85 @@
 // Degrees in balance: what transfers come to there is what the streams give and want.
-ghost use Rattle.std.specs.Prelude.{◌≡◌, ◌+◌, ◌-◌, ◌^◌, ◌≤◌, min, ◌&&◌, length, if◌then◌else◌, Decides};
-ghost use Rattle.plans.specs.Transfers.{sent, got};
-ghost use Rattle.streams.specs.Heat.{within, supply_of, demand_of};
-ghost use Rattle.streams.specs.Rules.{streams_in};
-ghost use Rattle.judge.specs.Verdicts.{transfers_in, Balanced};
-ghost use Rattle.judge.specs.Pieces.{FirstUnbalanced};
+ghost use Rattle.std.specs.Prelude.{◌≡◌, not, ◌==◌, filter, sum_by, slice_index, Decides};
+ghost use Rattle.judge.specs.Pieces.{streams_of, transfers_of, heat_in, BalancedFor, BalanceJudged};
 
+use crate::case::Case;
+use crate::flaws::Flaw;
 use crate::order::DEGREES;
 
-// What a degree gives and what it gets in all.
-#[derive(Clone, Copy)]
-struct Totals {
-    gives: u64,
-    gets: u64,
-}
-
-// A stream's heat in a degree, if it counts, and as if it were warmer by the shift.
-fn heat_at(counts: bool, low: u32, high: u32, rate: u32, shift: u64, degree: usize) -> u64
-    ensures { result ≡ (if counts && within (low + shift) (high + shift) degree then rate else 0) }
+// A stream's heat in a degree, as if it were warmer by the shift.
+fn heat_at(stream: &[u32; 4], shift: u64, degree: u32) -> u64
+    ensures { result ≡ heat_in shift degree stream.now }
 {
-    match (degree as u64).checked_sub(shift) {
-        Some(own) if counts && low as u64 <= own && own < high as u64 => rate as u64,
+    let [_, low, high, rate] = *stream;
+    match u64::from(degree).checked_sub(shift) {
+        Some(own) if u64::from(low) <= own && own < u64::from(high) => u64::from(rate),
         _ => 0,
     }
 }
 
-// What the streams give and want in a degree; 64 of less than 2^32 each fit.
-fn wanted_at(streams: &[u32], gap: u64, degree: usize) -> Totals
-    requires { length streams.now ≤ 256 }
-    ensures gives { result.gives ≡ supply_of (streams_in streams.now) degree }
-    ensures gets { result.gets ≡ demand_of gap (streams_in streams.now) degree }
-    ensures few { (result.gives ≤ 2 ^ 38) × (result.gets ≤ 2 ^ 38) }
-{
-    let mut gives = 0;
-    let mut gets = 0;
-    let mut rest = streams;
-    while let [mark, low, high, rate, more @ ..] = rest {
-        gives += heat_at(*mark == 1, *low, *high, *rate, 0, degree);
-        gets += heat_at(*mark != 1, *low, *high, *rate, gap, degree);
-        rest = more;
+impl Case<'_> {
+    // What hot streams give in a degree; 64 of less than 2^32 each fit. The judge reads a mark for itself: 1 is hot.
+    fn given_at(&self, degree: u32) -> u64
+        ensures { result ≡ sum_by (heat_in 0 degree) (filter (λ s. slice_index s 0 == 1) self.now.streams.now) }
+    {
+        self.streams
+            .iter()
+            .filter(|[mark, ..]| *mark == 1)
+            .map(|stream| heat_at(stream, 0, degree))
+            .sum()
     }
-    Totals { gives, gets }
-}
 
-// The heat, if it counts.
-fn heat_if(counts: bool, heat: u32) -> u64
-    ensures { result ≡ (if counts then heat else 0) }
-{
-    if counts { heat as u64 } else { 0 }
-}
-
-// What the transfers from a degree come to, and those to it, up to the most that fits.
-fn moved_at(plan: &[u32], degree: usize) -> Totals
-    ensures gives { result.gives ≡ min (sent (transfers_in plan.now) degree) (2 ^ 64 - 1) }
-    ensures gets { result.gets ≡ min (got (transfers_in plan.now) degree) (2 ^ 64 - 1) }
-{
-    let mut gives: u64 = 0;
-    let mut gets: u64 = 0;
-    let mut rest = plan;
-    while let [from, to, heat, more @ ..] = rest {
-        gives = gives.saturating_add(heat_if(*from as usize == degree, *heat));
-        gets = gets.saturating_add(heat_if(*to as usize == degree, *heat));
-        rest = more;
+    // What cold streams, those of any other mark, want there, counted as warmer by the gap.
+    fn wanted_at(&self, degree: u32) -> u64
+        ensures { result ≡ sum_by (heat_in self.now.gap degree) (filter (λ s. not (slice_index s 0 == 1)) self.now.streams.now) }
+    {
+        self.streams
+            .iter()
+            .filter(|[mark, ..]| *mark != 1)
+            .map(|stream| heat_at(stream, self.gap, degree))
+            .sum()
     }
-    Totals { gives, gets }
-}
 
-// Whether a degree gives all that it has and gets all that it wants.
-fn balances(streams: &[u32], gap: u64, plan: &[u32], degree: usize) -> bool
-    requires { length streams.now ≤ 256 }
-    ensures { Decides result (Balanced streams.now gap (transfers_in plan.now) degree) }
-{
-    let wanted = wanted_at(streams, gap, degree);
-    let moved = moved_at(plan, degree);
-    moved.gives == wanted.gives && moved.gets == wanted.gets
-}
+    // What the transfers from a degree come to; as many as a slice holds fit.
+    fn sent_at(&self, degree: u32) -> u128
+        ensures { result ≡ sum_by (λ t. slice_index t 2) (filter (λ t. slice_index t 0 == degree) self.now.plan.now) }
+    {
+        self.plan
+            .iter()
+            .filter(|[from, ..]| *from == degree)
+            .map(|[_, _, heat]| *heat as u128)
+            .sum()
+    }
 
-// The first degree from above that doesn't balance.
-pub(crate) fn first_unbalanced(streams: &[u32], gap: u64, plan: &[u32]) -> Option<usize>
-    requires { length streams.now ≤ 256 }
-    ensures { FirstUnbalanced streams.now gap (transfers_in plan.now) result }
-{
-    for degree in (0..DEGREES as usize).rev() {
-        if !balances(streams, gap, plan, degree) {
-            return Some(degree);
+    // And those to it.
+    fn got_at(&self, degree: u32) -> u128
+        ensures { result ≡ sum_by (λ t. slice_index t 2) (filter (λ t. slice_index t 1 == degree) self.now.plan.now) }
+    {
+        self.plan
+            .iter()
+            .filter(|[_, to, _]| *to == degree)
+            .map(|[_, _, heat]| *heat as u128)
+            .sum()
+    }
+
+    // Whether a degree gives all that it has and gets all that it wants.
+    fn balances(&self, degree: u32) -> bool
+        ensures { Decides result (BalancedFor (streams_of self.now.streams.now) self.now.gap (transfers_of self.now.plan.now) degree) }
+    {
+        self.sent_at(degree) == u128::from(self.given_at(degree))
+            && self.got_at(degree) == u128::from(self.wanted_at(degree))
+    }
+
+    // All degrees balance, or which is the first from above that doesn't.
+    pub(crate) fn check_balance(&self) -> Result<(), Flaw>
+        ensures { BalanceJudged (streams_of self.now.streams.now) self.now.gap (transfers_of self.now.plan.now) result }
+    {
+        // A `for`, since of a test that decides a fact `find` gives the proof too little to go on.
+        for degree in (0..DEGREES).rev() {
+            if !self.balances(degree) {
+                return Err(Flaw::Unbalanced(degree as usize));
+            }
         }
+        Ok(())
     }
-    None
 }

@@ -2,7 +2,10 @@
 #![tactic(auto)]
 
 mod balance;
+mod case;
+mod flaws;
 mod order;
 mod verdicts;
 
-pub use verdicts::{Verdict, judge};
+pub use flaws::Flaw;
+pub use verdicts::judge;

@@ -1,16 +1,25 @@
 // The order of transfers: the warmest place that takes first, and for one place the warmest that gives first.
-ghost use Rattle.std.specs.Prelude.{◌≡◌, not};
-ghost use Rattle.judge.specs.Verdicts.{transfer_in, transfers_in};
-ghost use Rattle.judge.specs.Pieces.{placed, fair, rising, behind, follows, disorder};
+ghost use Rattle.std.specs.Prelude.{◌≡◌, not, slice_index};
+ghost use Rattle.judge.specs.Verdicts.{transfer_in};
+ghost use Rattle.judge.specs.Pieces.{placed, fair, rising, behind, follows, transfers_of, OrderJudged};
 
-// The mark of the boiler, as what gives, and of the river, as what takes.
+use crate::case::Case;
+use crate::flaws::Flaw;
+use plans::Transfer;
+
+// Degrees are 0 to 999. The judge has constants of its own, so that no slip hides in both it and the planner.
+pub(crate) const DEGREES: u32 = 1000;
+
+// The mark of the boiler, as what gives, and of the river, as what takes; the judge's own too.
 const OUTSIDE: u32 = 65535;
 
-// Above every place.
-const ABOVE_ALL: u32 = 65536;
-
-// Degrees are 0 to 999.
-pub(crate) const DEGREES: u32 = 1000;
+// Three numbers are a transfer: from, to, how much.
+pub(crate) fn transfer_of(three: &[u32; 3]) -> Transfer
+    ensures { result ≡ transfer_in (slice_index three.now 0) (slice_index three.now 1) (slice_index three.now 2) }
+{
+    let [from, to, heat] = *three;
+    Transfer { from, to, heat }
+}
 
 // A degree, or outside.
 fn is_place(mark: u32) -> bool
@@ -20,49 +29,46 @@ fn is_place(mark: u32) -> bool
 }
 
 // Something goes from a place to a place, and not from the boiler to the river.
-fn is_fair(from: u32, to: u32, heat: u32) -> bool
-    ensures { result ≡ fair (transfer_in from to heat) }
+fn is_fair(t: Transfer) -> bool
+    ensures { result ≡ fair t }
 {
-    heat > 0 && is_place(from) && is_place(to) && !(from == OUTSIDE && to == OUTSIDE)
+    t.heat > 0 && is_place(t.from) && is_place(t.to) && !(t.from == OUTSIDE && t.to == OUTSIDE)
 }
 
 // It doesn't go to a warmer degree.
-fn falls(from: u32, to: u32) -> bool
-    ensures { result ≡ not (rising from to) }
+fn falls(t: Transfer) -> bool
+    ensures { result ≡ not (rising t) }
 {
-    to >= DEGREES || to <= from
+    t.to >= DEGREES || t.to <= t.from
 }
 
-// It stands behind the one from a to b.
-fn is_behind(a: u32, b: u32, from: u32, to: u32) -> bool
-    ensures { result ≡ behind a b from to }
+// It stands behind the one before it.
+fn is_behind(before: Transfer, t: Transfer) -> bool
+    ensures { result ≡ behind before t }
 {
-    to < b || to == b && from < a
+    t.to < before.to || t.to == before.to && t.from < before.from
 }
 
-// It may follow the one from a to b.
-fn may_follow(a: u32, b: u32, from: u32, to: u32, heat: u32) -> bool
-    ensures { result ≡ follows a b (transfer_in from to heat) }
+// It may stand there, behind the one before it if there is one.
+fn may_follow(before: Option<Transfer>, t: Transfer) -> bool
+    ensures { result ≡ follows before t }
 {
-    is_fair(from, to, heat) && falls(from, to) && is_behind(a, b, from, to)
+    is_fair(t) && falls(t) && before.is_none_or(|before| is_behind(before, t))
 }
 
-// The first transfer that may not follow the one before it; a mark above every place stands before them all.
-pub(crate) fn first_disorder(plan: &[u32]) -> Option<usize>
-    ensures { result ≡ disorder 0 65536 0 (transfers_in plan.now) }
-{
-    let mut a = 0;
-    let mut b = ABOVE_ALL;
-    let mut count = 0;
-    let mut rest = plan;
-    while let [from, to, heat, more @ ..] = rest {
-        if !may_follow(a, b, *from, *to, *heat) {
-            return Some(count);
+impl Case<'_> {
+    // Each transfer may follow the one before it, or which is the first that may not.
+    pub(crate) fn check_order(&self) -> Result<(), Flaw>
+        ensures { OrderJudged (transfers_of self.now.plan.now) result }
+    {
+        let mut before = None;
+        for (place, three) in self.plan.iter().enumerate() {
+            let t = transfer_of(three);
+            if !may_follow(before, t) {
+                return Err(Flaw::OutOfOrder(place));
+            }
+            before = Some(t);
         }
-        a = *from;
-        b = *to;
-        count += 1;
-        rest = more;
+        Ok(())
     }
-    None
 }

@@ -1,79 +1,133 @@
--- Lines and words, cut off one at a time.
-use Rattle.std.proofs.Common.{◌≡◌, ℕ, ◌+◌, ◌<◌, Bool, true, false, cond, not, eqb, List, [], ◌∷◌, length, take, drop, sym, refl, ap, ◌∙◌, ap₂, arith}
-use Rattle.std.proofs.lemmas.List.{drop_more}
-use Rattle.lexing.specs.declared.Stop.TheVariants.{Newline, Blank, Word}
-use Rattle.lexing.specs.Lexing.{blank, passes, up_to, from_first, onto_first, lines, words}
+-- Where lines and words are cut, by the places of the bytes that end them.
+use Rattle.std.proofs.Common.{◌≡◌, ℕ, ◌+◌, ◌-◌, ◌<◌, ◌≤◌, Bool, true, false, not, eqb, List, [], ◌∷◌, length, get_or, take, drop, sym, refl, ap, ◌∙◌, add-zero, unwrap_or, arith, inl, inr, Some, None}
+use Rattle.std.proofs.lemmas.List.{take_rest, drop_more, take_all, length-take, get_or-drop, length-drop}
+use Rattle.std.proofs.lemmas.List.Splits.{slice_split_first, slice_split_none, length-slice_split}
+use Rattle.std.proofs.lemmas.List.Sums.{fails_before_first, passes_at_first, position_or_len_is, suffix_len_is, count_by-le-length, prefix_len-le-length}
+use Rattle.std.proofs.Math.ListN.{drop_of_length-le}
+use Rattle.std.specs.List.{position, position_or_len, slice_split, suffix_len}
+use Rattle.std.proofs.lemmas.Bool.{cases_lt}
+use Rattle.std.proofs.lemmas.Bool.Decides.{nat_tests}
+use Rattle.lexing.specs.Lexing.{blank, uncommented, trimmed, some_bytes, lines, words}
 
--- a text is its first line, or that and a newline and the lines behind it
-abbrev after_line : List ℕ → List (List ℕ)
-after_line [] = []
-after_line (b ∷ bs) = lines bs
+-- no byte before a place passes
+abbrev pub Before : (ℕ → Bool) → List ℕ → ℕ → Type 0
+Before p bs i = (k : ℕ) → k < i → p (get_or bs k 0) ≡ false
 
-line_by : (t : Bool) (b : ℕ) (bs : List ℕ) → lines bs ≡ up_to (passes Newline) bs ∷ after_line (from_first (passes Newline) bs) →
-    cond t ([] ∷ lines bs) (onto_first b (lines bs)) ≡ cond t [] (b ∷ up_to (passes Newline) bs) ∷ after_line (cond t (b ∷ bs) (from_first (passes Newline) bs))
-line_by true b bs e = refl
-line_by false b bs e = ap (onto_first b) e
+-- the first that passes, or none
+first_is : (p : ℕ → Bool) (bs : List ℕ) (i : ℕ) → i < length bs → p (get_or bs i 0) ≡ true → Before p bs i → position_or_len p bs ≡ i
+first_is p bs i l h b = position_or_len_is p bs i 0 (omega arith) b (λ _. h)
 
-pub lines_first : (bs : List ℕ) → lines bs ≡ up_to (passes Newline) bs ∷ after_line (from_first (passes Newline) bs)
+none_is : (p : ℕ → Bool) (bs : List ℕ) → Before p bs (length bs) → position_or_len p bs ≡ length bs
+none_is p bs b = position_or_len_is p bs (length bs) 0 (omega arith) b (λ l. absurd (omega arith))
+
+-- a text is its first line, and the lines behind a newline, if there is one
+pub line_ends : (text : List ℕ) (end : ℕ) → end < length text → eqb (get_or text end 0) 10 ≡ true → Before (λ b. eqb b 10) text end →
+    lines text ≡ take end text ∷ lines (take (length text - (end + 1)) (drop (end + 1) text))
 unfolding lines
-lines_first [] = refl
-lines_first (b ∷ bs) = line_by (eqb b 10) b bs (lines_first bs)
+line_ends text end l h b =
+    let p = first_is (λ b. eqb b 10) text end l h b in
+    rw (take_rest text (end + 1), ← p) (slice_split_first (λ b. eqb b 10) text 0 (omega (arith, p)))
+
+pub last_line : (text : List ℕ) → Before (λ b. eqb b 10) text (length text) → lines text ≡ text ∷ []
+unfolding lines
+last_line text b = let p = none_is (λ b. eqb b 10) text b in grind (arith, slice_split_none, fails_before_first)
+
+-- there is one line more than newlines
+pub lines_few : (text : List ℕ) → length (lines text) ≤ length text + 1
+unfolding lines
+lines_few text = omega (arith, length-slice_split (λ b. eqb b 10) text, count_by-le-length (λ b. eqb b 10) text)
+
+-- a comment begins at the first '#'
+pub comment_begins : (line : List ℕ) (end : ℕ) → end < length line → eqb (get_or line end 0) 35 ≡ true → Before (λ b. eqb b 35) line end → take end line ≡ uncommented line
+comment_begins line end l h b = ap (λ n. take n line) (sym (first_is (λ b. eqb b 35) line end l h b))
+
+pub no_comment : (line : List ℕ) → Before (λ b. eqb b 35) line (length line) → line ≡ uncommented line
+no_comment line b = let p = none_is (λ b. eqb b 35) line b in sym (take_all (position_or_len (λ b. eqb b 35) line) line (omega (arith, p)))
+
+-- a line ends after its last byte that is no blank, and is nothing where there is none
+pub blanks_begin : (line : List ℕ) (last : ℕ) → last < length line → blank (get_or line last 0) ≡ false → ((k : ℕ) → last < k → k < length line → blank (get_or line k 0) ≡ true) → take (last + 1) line ≡ trimmed line
+unfolding trimmed
+blanks_begin line last l e after =
+    let s = suffix_len_is blank line (last + 1) 0 (omega arith) (λ k p. after k (omega arith)) (λ p. grind arith) in
+    let n : last + 1 ≡ length line - suffix_len blank line = omega (arith, s) in
+    ap (λ k. take k line) n
+
+pub all_blank : (line : List ℕ) → ((k : ℕ) → k < length line → blank (get_or line k 0) ≡ true) → [] ≡ trimmed line
+unfolding trimmed
+all_blank line all =
+    let s = suffix_len_is blank line 0 0 (omega arith) (λ k p. all k) (λ p. absurd (omega arith)) in
+    let n : length line - suffix_len blank line ≡ 0 = omega (arith, s) in
+    rw n refl
 
 -- blanks before a word are skipped
-skip_by : (t : Bool) (b : ℕ) (bs : List ℕ) → blank b ≡ t → words bs ≡ words (from_first (passes Word) bs) → words (b ∷ bs) ≡ words (cond (not t) (b ∷ bs) (from_first (passes Word) bs))
-unfolding words
-skip_by true b bs e w = rw e w
-skip_by false b bs e w = refl
+abbrev start : List ℕ → ℕ
+start bs = position_or_len (λ b. not (blank b)) bs
 
-pub words_skip : (bs : List ℕ) → words bs ≡ words (from_first (passes Word) bs)
+skip_by : (t : Bool) (b : ℕ) (bs : List ℕ) → blank b ≡ t → words bs ≡ words (drop (start bs) bs) → words (b ∷ bs) ≡ words (drop (start (b ∷ bs)) (b ∷ bs))
+unfolding words
+skip_by true b bs e w = let d : drop (1 + start bs) (b ∷ bs) ≡ drop (start bs) bs = grind arith in rw (e, d) w
+skip_by false b bs e w = simp e refl
+
+words_skip : (bs : List ℕ) → words bs ≡ words (drop (start bs) bs)
 unfolding words
 words_skip [] = refl
 words_skip (b ∷ bs) = skip_by (blank b) b bs refl (words_skip bs)
 
+pub no_words : (text : List ℕ) → position (λ b. not (blank b)) text ≡ None → words text ≡ []
+unfolding words
+no_words text e =
+    let l : length text ≤ start text = grind (arith, nat_tests) in
+    words_skip text ∙ ap words (drop_of_length-le text l)
+
 -- a text that begins with a word is that word and the words behind it
-first_by : (t : Bool) (b c : ℕ) (cs : List ℕ) → blank c ≡ t → (blank c ≡ false → words (c ∷ cs) ≡ up_to (passes Blank) (c ∷ cs) ∷ words (from_first (passes Blank) (c ∷ cs))) →
-    cond (not (blank c)) (onto_first b (words (c ∷ cs))) ((b ∷ []) ∷ words (c ∷ cs)) ≡ (b ∷ up_to (passes Blank) (c ∷ cs)) ∷ words (from_first (passes Blank) (c ∷ cs))
-first_by true b c cs q w = rw q refl
-first_by false b c cs q w = ap (λ t. cond (not t) (onto_first b (words (c ∷ cs))) ((b ∷ []) ∷ words (c ∷ cs))) q ∙ ap (onto_first b) (w q)
+some_long : (bs : List ℕ) → 0 < length bs → some_bytes bs ≡ true
+some_long [] l = absurd (omega arith)
+some_long (b ∷ bs) l = refl
 
-pub words_first : (b : ℕ) (bs : List ℕ) → blank b ≡ false → words (b ∷ bs) ≡ up_to (passes Blank) (b ∷ bs) ∷ words (from_first (passes Blank) (b ∷ bs))
+first_word : (bs : List ℕ) (end : ℕ) → 0 < end → end < length bs → position_or_len blank bs ≡ end → words bs ≡ take end bs ∷ words (drop end bs)
 unfolding words
-words_first b [] e = rw e refl
-words_first b (c ∷ cs) e = rw e (first_by (blank c) b c cs refl (words_first c cs))
+first_word bs end p l e =
+    let s = slice_split_first blank bs 0 (omega (arith, e)) in
+    let q = passes_at_first blank bs 0 (omega (arith, e)) in
+    let t = some_long (take (position_or_len blank bs) bs) (omega (arith, e, length-take {A = ℕ})) in
+    rw (← e) (simp (s, drop_more bs (position_or_len blank bs) 0 (omega (arith, e)), q, t) refl)
 
--- what begins at a word begins with a byte that is no blank
-word_by : (t : Bool) (b : ℕ) (bs : List ℕ) → blank b ≡ t →
-    (0 < length (from_first (passes Word) bs) → (c : ℕ) × (rest : List ℕ) × (from_first (passes Word) bs ≡ c ∷ rest) × (blank c ≡ false)) → 0 < length (cond (not t) (b ∷ bs) (from_first (passes Word) bs)) →
-    (c : ℕ) × (rest : List ℕ) × (cond (not t) (b ∷ bs) (from_first (passes Word) bs) ≡ c ∷ rest) × (blank c ≡ false)
-word_by true b bs e w l = w l
-word_by false b bs e w l = (b, bs, refl, e)
-
-pub from_word : (bs : List ℕ) → 0 < length (from_first (passes Word) bs) → (b : ℕ) × (rest : List ℕ) × (from_first (passes Word) bs ≡ b ∷ rest) × (blank b ≡ false)
-from_word [] l = absurd (omega arith)
-from_word (b ∷ bs) l = word_by (blank b) b bs refl (from_word bs) l
-
--- one word after the other
-pub words_more : (bs rest : List ℕ) → rest ≡ from_first (passes Word) bs → 0 < length rest → words bs ≡ up_to (passes Blank) rest ∷ words (from_first (passes Blank) rest)
-words_more bs rest e l =
-    let w = from_word bs (omega (arith, ap length e)) in
-    words_skip bs ∙ ap words w.2 ∙ words_first w.0 w.1 w.3
-    ∙ ap (λ (xs : List ℕ). up_to (passes Blank) xs ∷ words (from_first (passes Blank) xs)) (sym (e ∙ w.2))
-
-pub words_none : (bs : List ℕ) → from_first (passes Word) bs ≡ [] → words bs ≡ []
+last_word : (bs : List ℕ) → 0 < length bs → position_or_len blank bs ≡ length bs → words bs ≡ bs ∷ []
 unfolding words
-words_none bs e = words_skip bs ∙ ap words e
+last_word bs p e =
+    let s : slice_split blank bs ≡ bs ∷ [] = grind (arith, slice_split_none, fails_before_first) in
+    rw (s, some_long bs p) refl
 
--- the line ends at a newline, or with the text
-pub line_more : (bs : List ℕ) (b : ℕ) (rest : List ℕ) → from_first (passes Newline) bs ≡ b ∷ rest → lines bs ≡ up_to (passes Newline) bs ∷ lines rest
-line_more bs b rest e = lines_first bs ∙ ap (λ (xs : List ℕ). up_to (passes Newline) bs ∷ after_line xs) e
+begun : (bs : List ℕ) → 0 < length bs → not (blank (get_or bs 0 0)) ≡ true → 0 < position_or_len blank bs
+begun [] l w = absurd (omega arith)
+begun (b ∷ bs) l w = rw w (omega arith)
 
-pub line_last : (bs : List ℕ) → from_first (passes Newline) bs ≡ [] → lines bs ≡ up_to (passes Newline) bs ∷ []
-line_last bs e = lines_first bs ∙ ap (λ (xs : List ℕ). up_to (passes Newline) bs ∷ after_line xs) e
+word_at : (bs : List ℕ) (end : ℕ) → 0 < length bs → not (blank (get_or bs 0 0)) ≡ true → end ≡ position_or_len blank bs → words bs ≡ take end bs ∷ words (take (length bs - end) (drop end bs))
+unfolding words
+word_at bs end l w e =
+    elim (cases_lt end (length bs)) [
+      | inl k ↦ rw (take_rest bs end) (first_word bs end (omega (arith, begun bs l w)) k (sym e))
+      | inr k ↦
+          let n : end ≡ length bs = omega (arith, prefix_len-le-length (λ b. not (blank b)) bs) in
+          rw (take_rest bs end, take_all end bs k, drop_of_length-le bs k) (last_word bs l (sym e ∙ n))
+    ]
 
--- the same by places
-pub words_cut : (bs rest : List ℕ) (end : ℕ) → rest ≡ from_first (passes Word) bs → 0 < length rest → take end rest ≡ up_to (passes Blank) rest → drop end rest ≡ from_first (passes Blank) rest →
-    words bs ≡ take end rest ∷ words (drop end rest)
-words_cut bs rest end e l f b = words_more bs rest e l ∙ ap₂ (λ (w r : List ℕ). w ∷ words r) (sym f) (sym b)
+-- a word ends at the first blank, or with the text
+pub stop_within : (bs : List ℕ) → unwrap_or (position blank bs) (length bs) ≤ length bs
+stop_within bs = grind (arith, nat_tests)
 
-pub line_cut : (bs : List ℕ) (end : ℕ) → end < length bs → take end bs ≡ up_to (passes Newline) bs → drop end bs ≡ from_first (passes Newline) bs → lines bs ≡ take end bs ∷ lines (drop (end + 1) bs)
-line_cut bs end l f b = line_more bs _ _ (sym b ∙ drop_more bs end 0 l) ∙ ap (λ (x : List ℕ). x ∷ lines (drop (end + 1) bs)) (sym f)
+stop_is : (bs : List ℕ) → unwrap_or (position blank bs) (length bs) ≡ position_or_len blank bs
+stop_is bs = grind (arith, nat_tests, prefix_len-le-length)
+
+-- the same behind the blanks before it
+pub word_cut : (text : List ℕ) (at end : ℕ) → position (λ b. not (blank b)) text ≡ Some at →
+    end ≡ unwrap_or (position blank (take (length text - at) (drop at text))) (length (take (length text - at) (drop at text))) →
+    words text ≡ take end (take (length text - at) (drop at text))
+    ∷ words (take (length (take (length text - at) (drop at text)) - end) (drop end (take (length text - at) (drop at text))))
+word_cut text at end s e =
+    let p : (start text ≡ at) × (at < length text) = grind (arith, nat_tests) in
+    let q = passes_at_first (λ b. not (blank b)) text 0 (omega (arith, p.0, p.1)) in
+    let w : not (blank (get_or (take (length text - at) (drop at text)) 0 0)) ≡ true = rw (take_rest text at, get_or-drop, add-zero, ← p.0) q in
+    let l : 0 < length (take (length text - at) (drop at text)) = rw (take_rest text at, length-drop) (omega (arith, p.1)) in
+    let k : words text ≡ words (take (length text - at) (drop at text)) = rw (take_rest text at, ← p.0) (words_skip text) in
+    k ∙ word_at (take (length text - at) (drop at text)) end l w (e ∙ stop_is (take (length text - at) (drop at text)))

@@ -1,4 +1,3 @@
-mod Finding
-pub mod Cutting
+mod Cutting
+mod Folding
 mod Reading
-mod Trimming

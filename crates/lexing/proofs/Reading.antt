@@ -1,46 +1,39 @@
 -- A number, read digit by digit.
-use Rattle.std.proofs.Common.{◌≡◌, ℕ, ◌+◌, ◌-◌, ◌*◌, ◌<◌, ◌≤◌, Bool, true, false, cond, ◌&&◌, ltb, leb, List, [], ◌∷◌, length, Some, None, Option, refl, arith}
-use Rattle.std.proofs.lemmas.Bool.{le-leb, lt-leb, lt-ltb, le-ltb}
-use Rattle.lexing.specs.Lexing.{digits, value_after, number_in}
+use Rattle.std.proofs.Common.{◌≡◌, ℕ, ◌+◌, ◌-◌, ◌*◌, ◌<◌, ◌≤◌, Bool, true, false, cond, ◌&&◌, ltb, leb, List, [], ◌∷◌, length, Some, None, Option, inl, inr, refl, arith}
+use Rattle.std.proofs.lemmas.Bool.{lt-ltb, le-ltb, cases_lt, and_right}
+use Rattle.std.specs.Option.{option_and_then}
+use Rattle.lexing.specs.Lexing.{digits, value_after, with_digit, number_in}
+use Rattle.lexing.proofs.Folding.{folded}
 
--- the rest is still to be read, after the value so far
-unfoldable pub number_from : ℕ → List ℕ → Option ℕ
+-- what is still to be read, after the value so far
+abbrev number_from : ℕ → List ℕ → Option ℕ
 number_from n bs = cond (digits bs && ltb (value_after n bs) 4294967296) (Some (value_after n bs)) None
-
-pub number_whole : (bs : List ℕ) → (length bs ≡ 0 → ⊥) → number_in bs ≡ number_from 0 bs
-unfolding number_in number_from
-number_whole [] n = absurd (n refl)
-number_whole (b ∷ bs) n = refl
-
-pub number_none : number_in [] ≡ None
-unfolding number_in
-number_none = refl
-
-pub number_end : (n : ℕ) → n < 4294967296 → number_from n [] ≡ Some n
-unfolding number_from
-number_end n l = rw (lt-ltb n 4294967296 l) refl
-
-pub number_digit : (n b : ℕ) (bs : List ℕ) → 48 ≤ b → b ≤ 57 → number_from n (b ∷ bs) ≡ number_from (n * 10 + (b - 48)) bs
-unfolding number_from
-number_digit n b bs l h = rw (le-leb 48 b l, le-leb b 57 h) refl
-
-and_false : (t : Bool) → (t && false) ≡ false
-and_false true = refl
-and_false false = refl
-
-pub number_low : (n b : ℕ) (bs : List ℕ) → b < 48 → number_from n (b ∷ bs) ≡ None
-unfolding number_from
-number_low n b bs l = rw (lt-leb 48 b l) refl
-
-pub number_high : (n b : ℕ) (bs : List ℕ) → 57 < b → number_from n (b ∷ bs) ≡ None
-unfolding number_from
-number_high n b bs l = rw (lt-leb b 57 l, and_false (leb 48 b)) refl
 
 -- a value only grows
 value_grows : (n : ℕ) (bs : List ℕ) → n ≤ value_after n bs
 value_grows n [] = omega arith
 value_grows n (b ∷ bs) = omega (arith, value_grows (n * 10 + (b - 48)) bs)
 
-pub number_large : (n : ℕ) (bs : List ℕ) → 4294967295 < n → number_from n bs ≡ None
-unfolding number_from
-number_large n bs l = rw (le-ltb (value_after n bs) 4294967296 (omega (arith, value_grows n bs)), and_false (digits bs)) refl
+-- one byte more, which may be a digit
+read_byte : (digit : Bool) (n : ℕ) (bs : List ℕ) → (n < 4294967296 → folded with_digit n bs ≡ number_from n bs) →
+    option_and_then (λ m. folded with_digit m bs) (cond (digit && ltb n 4294967296) (Some n) None) ≡ cond ((digit && digits bs) && ltb (value_after n bs) 4294967296) (Some (value_after n bs)) None
+read_byte false n bs rest = refl
+read_byte true n bs rest =
+    elim (cases_lt n 4294967296) [
+      | inl l ↦ rw (lt-ltb n 4294967296 l) (rest l)
+      | inr l ↦ rw (le-ltb n 4294967296 l, and_right (digits bs) _ (le-ltb (value_after n bs) 4294967296 (omega (arith, value_grows n bs)))) refl
+    ]
+
+read_from : (bs : List ℕ) (n : ℕ) → n < 4294967296 → folded with_digit n bs ≡ number_from n bs
+read_from [] n l = rw (lt-ltb n 4294967296 l) refl
+read_from (b ∷ bs) n l = read_byte (leb 48 b && leb b 57) (n * 10 + (b - 48)) bs (read_from bs (n * 10 + (b - 48)))
+
+pub read_word : (bs : List ℕ) → (length bs ≡ 0 → ⊥) → folded with_digit 0 bs ≡ number_in bs
+unfolding number_in
+read_word [] n = absurd (n refl)
+read_word (b ∷ bs) n = read_from (b ∷ bs) 0 (omega arith)
+
+pub number_none : (bs : List ℕ) → length bs ≡ 0 → number_in bs ≡ None
+unfolding number_in
+number_none [] e = refl
+number_none (b ∷ bs) e = absurd (omega arith)

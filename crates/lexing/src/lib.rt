@@ -1,93 +1,107 @@
 // Lexing: the lines, words and whole numbers of a text, byte by byte.
 #![tactic(auto)]
 
-ghost use Rattle.std.specs.Prelude.{◌≡◌, ◌≤◌, [], ◌∷◌, length, take, drop, MatchOption};
-ghost use Rattle.lexing.specs.Lexing.{passes, up_to, from_first, uncommented, trimmed, lines, words, number_in, LineAndRest};
-
-// What a byte is looked for as.
-#[derive(Clone, Copy)]
-enum Stop {
-    Newline,
-    Comment,
-    Blank,
-    Word,
-}
+ghost use Rattle.std.specs.Prelude.{◌≡◌, ◌+◌, ◌≤◌, [], ◌∷◌, length, MatchOption, not, position};
+ghost use Rattle.std.specs.Iterator.{YieldsFirstRef, item_count};
+ghost use Rattle.lexing.specs.Lexing.{blank, with_digit, uncommented, trimmed, lines, words, number_in, lines_to_come, LineAndRest};
 
 // A space, a tab or a carriage return.
 fn is_blank(b: u8) -> bool
-    ensures { result ≡ passes Stop.Blank b }
+    ensures { result ≡ blank b }
 {
-    b == b' ' || b == b'\t' || b == b'\r'
-}
-
-fn stops(b: u8, stop: Stop) -> bool
-    ensures { result ≡ passes stop b }
-{
-    match stop {
-        Stop::Newline => b == b'\n',
-        Stop::Comment => b == b'#',
-        Stop::Blank => is_blank(b),
-        Stop::Word => !is_blank(b),
-    }
-}
-
-// The place of the first byte that is so, or the length where there is none.
-fn find(bytes: &[u8], stop: Stop) -> usize
-    ensures within { result ≤ length bytes.now }
-    ensures front { take result bytes.now ≡ up_to (passes stop) bytes.now }
-    ensures back { drop result bytes.now ≡ from_first (passes stop) bytes.now }
-{
-    for (i, b) in bytes.iter().enumerate() {
-        if stops(*b, stop) {
-            return i;
-        }
-    }
-    bytes.len()
+    matches!(b, b' ' | b'\t' | b'\r')
 }
 
 // The first line, and the text behind its newline, if it has one.
 pub fn split_line(text: &[u8]) -> (&[u8], Option<&[u8]>)
     ensures { LineAndRest text.now result.0.now result.1 }
 {
-    let end = find(text, Stop::Newline);
-    if end < text.len() {
-        (&text[0..end], Some(&text[end + 1..]))
-    } else {
-        (text, None)
+    match text.iter().position(|b| *b == b'\n') {
+        Some(end) => (&text[..end], Some(&text[end + 1..])),
+        None => (text, None),
     }
+}
+
+// The lines of a text, one after the other.
+#[derive(Drop)]
+pub struct Lines<'a> {
+    rest: Option<&'a [u8]>,
+}
+
+impl<'a> Iterator for Lines<'a> {
+    type Item = &'a [u8];
+
+    ghost next_gives = { YieldsFirstRef lines_to_come };
+
+    ghost remaining = { item_count lines_to_come };
+
+    fn next(&mut self) -> Option<&'a [u8]> {
+        let (line, rest) = split_line(self.rest?);
+        self.rest = rest;
+        Some(line)
+    }
+}
+
+// The lines of a text, of which there is one more than newlines.
+#[tactic(auto, using(crate::proofs::Cutting::lines_few))]
+pub fn lines_of(text: &[u8]) -> Lines<'_>
+    ensures all { lines_to_come result ≡ lines text.now }
+    ensures few { length (lines_to_come result) ≤ length text.now + 1 }
+{
+    Lines { rest: Some(text) }
 }
 
 // The line up to a '#', which begins a comment.
 pub fn before_comment(line: &[u8]) -> &[u8]
     ensures { result.now ≡ uncommented line.now }
 {
-    let end = find(line, Stop::Comment);
-    &line[0..end]
+    match line.iter().position(|b| *b == b'#') {
+        Some(end) => &line[..end],
+        None => line,
+    }
 }
 
 // The line without the blanks at its end.
 pub fn trim_end(line: &[u8]) -> &[u8]
     ensures { result.now ≡ trimmed line.now }
 {
-    for i in (0..line.len()).rev() {
-        if !is_blank(line[i]) {
-            return &line[0..i + 1];
-        }
+    match line.iter().rposition(|b| !is_blank(*b)) {
+        Some(last) => &line[..=last],
+        None => &[],
     }
-    &line[0..0]
+}
+
+// The place of the first byte that is no blank.
+fn find_word(text: &[u8]) -> Option<usize>
+    ensures { result ≡ position (λ b. not (blank b)) text.now }
+{
+    text.iter().position(|b| !is_blank(*b))
+}
+
+// The place of the first blank.
+fn find_blank(text: &[u8]) -> Option<usize>
+    ensures { result ≡ position blank text.now }
+{
+    text.iter().position(|b| is_blank(*b))
 }
 
 // The first word, and what stands behind it, if there is any.
+#[tactic(auto, using(crate::proofs::Cutting::no_words, crate::proofs::Cutting::word_cut, crate::proofs::Cutting::stop_within))]
 pub fn split_word(text: &[u8]) -> Option<(&[u8], &[u8])>
     ensures { MatchOption result (words text.now ≡ []) (λ x. words text.now ≡ x.0.now ∷ words x.1.now) }
 {
-    let start = find(text, Stop::Word);
-    if start == text.len() {
-        return None;
-    }
+    let start = find_word(text)?;
     let rest = &text[start..];
-    let end = find(rest, Stop::Blank);
-    Some((&rest[0..end], &rest[end..]))
+    let end = find_blank(rest).unwrap_or(rest.len());
+    Some((&rest[..end], &rest[end..]))
+}
+
+// The value with a digit more, if it is one, and the value stays below 2^32.
+fn with_digit(value: u32, b: u8) -> Option<u32>
+    ensures { result ≡ with_digit value b }
+{
+    let digit = char::from(b).to_digit(10)?;
+    value.checked_mul(10)?.checked_add(digit)
 }
 
 // The number that a word of digits writes, if it is below 2^32.
@@ -97,15 +111,5 @@ pub fn number(word: &[u8]) -> Option<u32>
     if word.is_empty() {
         return None;
     }
-    let mut value: u64 = 0;
-    for b in word {
-        if *b < b'0' || *b > b'9' {
-            return None;
-        }
-        value = value * 10 + (*b - b'0') as u64;
-        if value > u32::MAX as u64 {
-            return None;
-        }
-    }
-    Some(value as u32)
+    word.iter().try_fold(0, |value, b| with_digit(value, *b))
 }

@@ -3,37 +3,31 @@
 
 #[cfg(test)]
 mod tests {
-    use judge::{Verdict, judge};
+    use judge::{Flaw, judge};
     use plans::{Done, plan};
-    use std::test::Fail;
 
     const UNTOUCHED: u32 = 7;
 
-    // How many transfers and what is bought, or 0 and the refusal's number.
-    fn answered(done: Done) -> (u64, u64) {
+    // How many transfers and what is bought, or the refusal's number.
+    fn answered(done: Done) -> Result<(u64, u64), u64> {
         match done {
-            Done::Planned(transfers, bought) => (transfers, bought),
-            Done::Refused(number) => (0, number),
+            Done::Planned(transfers, bought) => Ok((transfers, bought)),
+            Done::Refused(number) => Err(number),
         }
     }
 
     // Whether all numbers are those that were there before.
     fn untouched(room: &[u32]) -> bool {
-        for number in room {
-            if *number != UNTOUCHED {
-                return false;
-            }
-        }
-        true
+        room.iter().all(|number| *number == UNTOUCHED)
     }
 
     // Hot from 60 to 50 with 2 and cold from 45 to 55 with 2, gap 10: the river, then the boiler, then what passes.
     #[test]
-    fn fifteen_transfers(rt: HostRuntime) -> Result<(), Fail> {
+    fn fifteen_transfers(rt: HostRuntime) {
         let mut room = [UNTOUCHED; 6000];
         assert_eq!(rt;
             answered(plan(&[1, 50, 60, 2, 0, 45, 55, 2], 10, &mut room)),
-            (15, 10)
+            Ok((15, 10))
         );
         let wanted = [
             (54, 65535),
@@ -52,16 +46,11 @@ mod tests {
             (56, 56),
             (55, 55),
         ];
-        let mut rest = &room[0..6000];
-        for (from, to) in wanted {
-            let [a, b, heat, more @ ..] = rest else {
-                return Err(Fail::new("the room ends"));
-            };
-            assert_eq!(rt; (*a, *b, *heat), (from, to, 2));
-            rest = more;
+        let (threes, _) = room.as_chunks::<3>();
+        for (transfer, (from, to)) in threes.iter().zip(wanted) {
+            assert_eq!(rt; *transfer, [from, to, 2]);
         }
-        assert!(rt; untouched(rest));
-        Ok(())
+        assert!(rt; untouched(&room[45..]));
     }
 
     // A thousand degrees that each serve two fill a room of 6,000 numbers. What is left over, 1,000, lies in degree 0, which goes to the river;
@@ -71,7 +60,7 @@ mod tests {
         let mut room = [UNTOUCHED; 6000];
         assert_eq!(rt;
             answered(plan(&[1, 0, 1000, 1_000_000, 0, 0, 1000, 999_999], 0, &mut room)),
-            (2000, 0)
+            Ok((2000, 0))
         );
         assert_eq!(rt; (room[0], room[1], room[2]), (0, 65535, 1000));
         assert_eq!(rt; (room[3], room[4], room[5]), (999, 999, 999_999));
@@ -83,7 +72,7 @@ mod tests {
     #[test]
     fn nothing_to_plan(rt: HostRuntime) {
         let mut room = [UNTOUCHED; 6000];
-        assert_eq!(rt; answered(plan(&[], 1000, &mut room)), (0, 0));
+        assert_eq!(rt; answered(plan(&[], 1000, &mut room)), Ok((0, 0)));
         assert!(rt; untouched(&room));
     }
 
@@ -91,18 +80,21 @@ mod tests {
     #[test]
     fn refusals(rt: HostRuntime) {
         let mut room = [UNTOUCHED; 6000];
-        assert_eq!(rt; answered(plan(&[1, 50, 60], 10, &mut room)), (0, 1));
-        assert_eq!(rt; answered(plan(&[1, 50, 60, 2], 941, &mut room)), (0, 2));
+        assert_eq!(rt; answered(plan(&[1, 50, 60], 10, &mut room)), Err(1));
+        assert_eq!(rt; answered(plan(&[1, 50, 60, 2], 941, &mut room)), Err(2));
         assert!(rt; untouched(&room));
         let mut small = [UNTOUCHED; 5999];
-        assert_eq!(rt; answered(plan(&[1, 50, 60, 2], 10, &mut small)), (0, 3));
+        assert_eq!(rt; answered(plan(&[1, 50, 60, 2], 10, &mut small)), Err(3));
         assert!(rt; untouched(&small));
     }
 
     // What the judge says of the room that the planner writes.
-    fn planned(streams: &[u32], gap: u64) -> Verdict {
+    fn planned(streams: &[u32], gap: u64) -> Result<(), Flaw> {
         let mut room = [UNTOUCHED; 6000];
-        let (transfers, _) = answered(plan(streams, gap, &mut room));
+        let transfers = answered(plan(streams, gap, &mut room)).map_or(
+            0,
+            |(transfers, _)| transfers,
+        );
         judge(streams, gap, &room, transfers as usize)
     }
 
@@ -118,23 +110,23 @@ mod tests {
     #[test]
     fn the_judge_finds_planned_rooms_good(rt: HostRuntime) {
         for gap in [0, 10, 20, 40] {
-            assert_eq!(rt; planned(&FOUR, gap), Verdict::Good);
+            assert_eq!(rt; planned(&FOUR, gap), Ok(()));
         }
-        assert_eq!(rt; planned(&BREWERY, 6), Verdict::Good);
+        assert_eq!(rt; planned(&BREWERY, 6), Ok(()));
         assert_eq!(rt;
             planned(&[1, 0, 1000, 1_000_000, 0, 0, 1000, 999_999], 0),
-            Verdict::Good
+            Ok(())
         );
-        assert_eq!(rt; planned(&[], 0), Verdict::Good);
+        assert_eq!(rt; planned(&[], 0), Ok(()));
     }
 
     // Another adviser's plan: one number of the fifteen transfers is another.
-    fn changed(place: usize, number: u32) -> Verdict {
+    fn changed(place: usize, number: u32) -> Result<(), Flaw> {
         let streams = [1, 50, 60, 2, 0, 45, 55, 2];
         let mut room = [UNTOUCHED; 6000];
         let _ = plan(&streams, 10, &mut room);
-        if place < 6000 {
-            room[place] = number;
+        if let Some(changed) = room.get_mut(place) {
+            *changed = number;
         }
         judge(&streams, 10, &room, 15)
     }
@@ -142,20 +134,20 @@ mod tests {
     #[test]
     fn the_judge_names_what_is_wrong(rt: HostRuntime) {
         // as it was written
-        assert_eq!(rt; changed(44, 2), Verdict::Good);
+        assert_eq!(rt; changed(44, 2), Ok(()));
         // 55 gives and gets less than it has and wants
-        assert_eq!(rt; changed(44, 1), Verdict::Unbalanced(55));
+        assert_eq!(rt; changed(44, 1), Err(Flaw::Unbalanced(55)));
         // the boiler gives more to 62
-        assert_eq!(rt; changed(23, 3), Verdict::Unbalanced(62));
+        assert_eq!(rt; changed(23, 3), Err(Flaw::Unbalanced(62)));
         // a transfer of nothing
-        assert_eq!(rt; changed(2, 0), Verdict::OutOfOrder(0));
+        assert_eq!(rt; changed(2, 0), Err(Flaw::OutOfOrder(0)));
         // 54 to the river a second time
-        assert_eq!(rt; changed(3, 54), Verdict::OutOfOrder(1));
+        assert_eq!(rt; changed(3, 54), Err(Flaw::OutOfOrder(1)));
         // from a degree that isn't there
-        assert_eq!(rt; changed(3, 1000), Verdict::OutOfOrder(1));
+        assert_eq!(rt; changed(3, 1000), Err(Flaw::OutOfOrder(1)));
         // 58 to 59, upward
-        assert_eq!(rt; changed(30, 58), Verdict::OutOfOrder(10));
+        assert_eq!(rt; changed(30, 58), Err(Flaw::OutOfOrder(10)));
         // what stands behind the fifteen is no part of the plan
-        assert_eq!(rt; changed(45, 3), Verdict::Good);
+        assert_eq!(rt; changed(45, 3), Ok(()));
     }
 }

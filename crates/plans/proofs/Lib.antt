@@ -1,6 +1,7 @@
 pub mod Room
 mod Rows
 mod Line
+mod Totals
 mod Given
 mod Rejecting
 mod Serving

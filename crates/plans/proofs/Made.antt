@@ -1,16 +1,19 @@
 -- The plan that transfers make, from what each place has sent and got.
-use Rattle.std.proofs.Common.{◌≡◌, ℕ, zero, suc, ◌+◌, ◌<◌, ◌≤◌, Bool, true, false, cond, ◌&&◌, eqb, ltb, List, [], ◌∷◌, ◌++◌, length, refl, inl, inr, arith}
+use Rattle.std.proofs.Common.{◌≡◌, ℕ, zero, suc, ◌+◌, ◌*◌, ◌<◌, ◌≤◌, Bool, true, false, cond, ◌&&◌, eqb, ltb, List, [], ◌∷◌, ◌++◌, length, refl, inl, inr, arith}
 use Rattle.std.specs.List.{AllByRecursion}
 use Rattle.std.proofs.lemmas.List.{length-append}
 use Rattle.std.proofs.ByRecursion.{All-append, All-weaker}
+use Rattle.std.proofs.Math.Bool.{and-true, and-false}
 use Rattle.std.proofs.lemmas.Bool.{cases_lt, cases_eq, eq-eqb, ne_eqb, lt-ltb, le-ltb}
 use Rattle.streams.specs.Heat.{sum_below, sum_from}
 use Rattle.streams.proofs.Sums.{sum_ext, sum_add, sum_zero}
 use Rattle.targets.specs.Plans.{bought}
 use Rattle.plans.specs.declared.transfers.Transfer.{Transfer}
-use Rattle.plans.specs.Transfers.{outside, moved, plan_of, Place, Proper, Before, Ordered, sent, got}
-use Rattle.plans.specs.Pieces.{Put, Falling, Rejected, Served}
+use Rattle.plans.specs.declared.transfers.Writer.{Writer}
+use Rattle.plans.specs.Transfers.{outside, flat, moved, plan_of, Place, Proper, Before, Ordered, sent, got}
+use Rattle.plans.specs.Pieces.{Added, Falling, Rejected, Served}
 use Rattle.plans.specs.Promise.{LaidOut}
+use Rattle.plans.proofs.Room.{added_more, length_flat}
 use Rattle.plans.proofs.Rows.{sent_append, got_append, ordered_append}
 
 -- of one transfer, over all places
@@ -35,17 +38,9 @@ row_one : (b : Bool) (t x : ℕ) → Place t → sum_below 1000 (λ e. cond (b &
 row_one true t x p = at_a_place t x p
 row_one false t x p = omega (arith, sum_zero 1000 (λ e. 0) (λ i l. refl))
 
-and_true : (b : Bool) → (b && true) ≡ b
-and_true true = refl
-and_true false = refl
-
-and_false : (b : Bool) → (b && false) ≡ false
-and_false true = refl
-and_false false = refl
-
 column_one : (b : Bool) (t x : ℕ) → Place t → sum_below 1000 (λ d. cond (eqb t d && b) x 0) + cond (eqb t outside && b) x 0 ≡ cond b x 0
-column_one true t x p = simp and_true (at_a_place t x p)
-column_one false t x p = simp and_false (row_one false t x p)
+column_one true t x p = simp and-true (at_a_place t x p)
+column_one false t x p = simp and-false (row_one false t x p)
 
 pub row : (ts : List Transfer) (a : ℕ) → AllByRecursion Proper ts → sum_below 1000 (moved ts a) + moved ts a outside ≡ sent ts a
 unfolding moved sent
@@ -99,10 +94,12 @@ unfolding got
 got_none [] e l a = refl
 got_none (t ∷ ts) e l a = rw (ne_eqb t.to e (λ q. omega arith)) (omega (arith, got_none ts e l a.1))
 
-pub laid_out : (h c : ℕ → ℕ) (heating n m r : ℕ) (old room part room₁ free : List ℕ) → 6000 ≤ length old → (s : Rejected h heating (sum_from 1000 0 c) n old room) →
-    (p : Served h c heating m part free) → Put r old room₁ (s.ts ++ p.ts) → LaidOut h c heating r old room₁
+pub laid_out : (h c : ℕ → ℕ) (heating : ℕ) (w w₁ w₂ : Writer) → w.count ≡ 0 → 6000 ≤ length w.room.now → Rejected h heating (sum_from 1000 0 c) w w₁ → Served h c heating w₁ w₂ →
+    LaidOut h c heating w₂.count w.room.now w₂.room.now
 unfolding bought plan_of
-laid_out h c heating n m r old room part room₁ free roomy s p w =
+laid_out h c heating w w₁ w₂ none roomy s p =
+    let k : 3 * w.count ≡ 0 = omega arith in
+    let a : Added w w₂ (s.ts ++ p.ts) = added_more w w₁ w₂ s.ts p.ts s.written p.written in
     let ts : List Transfer = s.ts ++ p.ts in
     let o : Ordered ts
     = ordered_append s.ts p.ts s.ordered p.ordered
@@ -111,9 +108,9 @@ laid_out h c heating n m r old room part room₁ free roomy s p w =
     let f : AllByRecursion Falling ts = All-append Falling s.ts p.ts (All-weaker (λ t. t.to ≡ outside) Falling (λ t e. inr e) s.ts s.river) p.falling in
     record {
       transfers = ts;
-      count = w.count;
-      fits = omega (arith, w.count, length-append s.ts p.ts, s.written.count, p.written.count, s.few p.few.0 p.few.1, p.few.2);
-      room_is = w.room_is;
+      count = omega (arith, a.count);
+      fits = omega (arith, a.count, length-append s.ts p.ts, s.few p.few.0 p.few.1, p.few.2);
+      room_is = let n : 3 * w₂.count ≡ 3 * w.count + length (flat ts) = omega (arith, a.count, length_flat ts) in rw (n, k) (rw k at a.room_is);
       ordered = o;
       feasible = record {
         gives = λ d l. omega (arith, row ts d pr, sent_append s.ts p.ts d, s.sent_is d l, p.sent_is d l);

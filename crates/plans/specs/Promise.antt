@@ -36,6 +36,11 @@ Answers xs gap room (Ok w) room₁ =
     × CheapestPlan (supply_of (streams_in xs)) (demand_of gap (streams_in xs)) w.targets.heating w.transfers room room₁
 Answers xs gap room (Err e) room₁ = (refusal_with_room xs gap room ≡ Some e) × (room₁ ≡ room)
 
+-- such an answer for callers that know refusals by their numbers
+abbrev pub done_of : Result Written Refusal → Done
+done_of (Ok w) = Planned w.transfers w.targets.heating
+done_of (Err e) = Refused (number_of e)
+
 -- the main promise: a cheapest plan for these streams and this gap, or the number of the first rule that applies, and nothing changed
 abbrev pub Promise : List ℕ → ℕ → (room : List ℕ) → Done → (room₁ : List ℕ) → Type 0
 Promise xs gap room (Planned n heating) room₁ =

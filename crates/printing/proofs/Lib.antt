@@ -1,4 +1,3 @@
 mod Threes
 mod Reading
 mod Cuts
-mod Places

@@ -1,5 +1,5 @@
 -- How a printed transfer is read.
-use Rattle.std.specs.Prelude.{◌≡◌, ℕ, ◌^◌, ◌<◌, Bool, cond, List, [], ◌∷◌, ◌++◌, length, take, drop, Some, None, codes, Option, nat_lt}
+use Rattle.std.specs.Prelude.{◌≡◌, ℕ, ◌^◌, ◌<◌, Bool, cond, List, [], ◌∷◌, ◌++◌, length, take, drop, Some, None, codes, Option, option_and_then, nat_lt, if◌then◌else◌}
 use Rattle.std.specs.Str.{bytes_eq}
 use Rattle.lexing.specs.Lexing.{number_in}
 use Rattle.plans.specs.declared.transfers.Transfer.{Transfer}
@@ -25,20 +25,25 @@ unfoldable pub place : List ℕ → List ℕ → Option ℕ
 place name bs = cond (bytes_eq bs name) (Some outside) (number_in bs)
 
 -- what is read next, unless nothing could be read
-abbrev pub and_then : {X Y : Type 0} → Option X → (X → Option Y) → Option Y
-and_then None f = None
-and_then (Some x) f = f x
+infixl 10 ◌>>=◌
+abbrev pub ◌>>=◌ : {X Y : Type 0} → Option X → (X → Option Y) → Option Y
+o >>= f = option_and_then f o
+
+-- the transfer that the parts of a line tell
+abbrev pub reads_parts : List ℕ → List ℕ → List ℕ → Option Transfer
+reads_parts giver taker digits = do
+  a ← place (codes "boiler") giver
+  b ← place (codes "river") taker
+  h ← number_in digits
+  Some (record { from = a; to = b; heat = h })
 
 -- what gives stands before `to`, what takes before a comma, and how much before the newline, which ends the line
 abbrev pub reads_transfer : List ℕ → Option Transfer
-reads_transfer bs =
-    and_then (cut (codes " to ") bs) (λ p.
-    and_then (cut (codes ", ") p.1) (λ q.
-    and_then (cut ended q.1) (λ r.
-    cond (nat_lt 0 (length r.1)) None
-    (and_then (place (codes "boiler") p.0) (λ a.
-    and_then (place (codes "river") q.0) (λ b.
-    and_then (number_in r.0) (λ h. Some (record { from = a; to = b; heat = h }))))))))
+reads_transfer bs = do
+  p ← cut (codes " to ") bs
+  q ← cut (codes ", ") p.1
+  r ← cut ended q.1
+  if nat_lt 0 (length r.1) then None else reads_parts p.0 q.0 r.0
 
 -- each transfer that is printed is read as it was
 abbrev pub ReadsBack : Type 0

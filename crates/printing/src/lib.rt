@@ -3,62 +3,61 @@
 
 mod reader;
 
-ghost use Rattle.std.specs.Prelude.{◌≡◌, ◌++◌, IfOk, string_bytes, OnOk};
+ghost use Rattle.std.specs.Prelude.{◌≡◌, ◌++◌, Some, string_bytes, OnOk};
 ghost use Rattle.printing.specs.ReadBack.{ReadsBack};
-ghost use Rattle.printing.specs.Printed.{targets_line_bytes, first_line_bytes, transfer_line_bytes, transfer_lines};
+ghost use Rattle.printing.specs.Printed.{first_line_bytes, transfer_line_bytes, transfer_lines};
 
-use plans::OUTSIDE;
+use plans::{OUTSIDE, Transfer};
 pub use reader::read_transfer;
-use std::alloc::{AllocError, Global};
+use std::alloc::AllocError;
+use std::fmt;
 use targets::Targets;
 
-// The line of targets: what is bought, what goes to the river, and the degree across which nothing may pass.
-fn targets_line(
-    heap: Global,
-    heating: u64,
-    cooling: u64,
-    pinch: Option<usize>,
-) -> Result<String, AllocError>
-    ensures { IfOk result (λ s. string_bytes s ≡ targets_line_bytes heating cooling pinch) }
-{
-    match pinch {
-        Some(degree) => format!(in heap;
-            "boiler {heating}, river {cooling}, nothing passes at {degree}\n"
-        ),
-        None => format!(in heap; "boiler {heating}, river {cooling}, nothing is lacking\n"),
+// The line that stands first: what is bought, what goes to the river, and the degree across which nothing may pass.
+#[derive(Clone, Copy)]
+pub struct TargetsLine(pub Targets);
+
+impl fmt::Display for TargetsLine {
+    ghost output = { λ line. Some (first_line_bytes line.0) };
+
+    fn fmt<W: fmt::Write>(&self, f: &mut fmt::Formatter<W>) -> fmt::Result {
+        let (heating, cooling) = (self.0.heating, self.0.cooling);
+        match self.0.pinch {
+            Some(degree) => writeln!(
+                f,
+                "boiler {heating}, river {cooling}, nothing passes at {degree}"
+            ),
+            None => writeln!(f, "boiler {heating}, river {cooling}, nothing is lacking"),
+        }
     }
 }
 
-// The line that stands first.
-pub fn first_line(heap: Global, t: Targets) -> Result<String, AllocError>
-    ensures { IfOk result (λ s. string_bytes s ≡ first_line_bytes t) }
-{
-    targets_line(heap, t.heating, t.cooling, t.pinch)
-}
+// The line of a transfer, with the boiler and the river by their names.
+#[derive(Clone, Copy)]
+pub struct TransferLine(pub Transfer);
 
-// One transfer, with the boiler and the river by their names.
-pub fn transfer_line(heap: Global, from: u32, to: u32, heat: u32) -> Result<String, AllocError>
-    ensures bytes { IfOk result (λ s. string_bytes s ≡ transfer_line_bytes from to heat) }
-    ensures reads_back { ReadsBack }
-{
-    if from == OUTSIDE {
-        return format!(in heap; "boiler to {to}, {heat}\n");
+impl fmt::Display for TransferLine {
+    ghost output = { λ line. Some (transfer_line_bytes line.0.from line.0.to line.0.heat) };
+
+    fn fmt<W: fmt::Write>(&self, f: &mut fmt::Formatter<W>) -> fmt::Result {
+        let Transfer { from, to, heat } = self.0;
+        match (from, to) {
+            (OUTSIDE, _) => writeln!(f, "boiler to {to}, {heat}"),
+            (_, OUTSIDE) => writeln!(f, "{from} to river, {heat}"),
+            _ => writeln!(f, "{from} to {to}, {heat}"),
+        }
     }
-    if to == OUTSIDE {
-        return format!(in heap; "{from} to river, {heat}\n");
-    }
-    format!(in heap; "{from} to {to}, {heat}\n")
 }
 
 // Adds a line for each three numbers.
-pub fn push_transfers(heap: Global, out: &mut String, numbers: &[u32]) -> Result<(), AllocError>
-    ensures { OnOk result (string_bytes out.new ≡ string_bytes out.old ++ transfer_lines numbers.now) }
+#[tactic(auto, using(crate::proofs::Reading::reads_back_lem, crate::proofs::Threes::in_threes, std::proofs::lemmas::List::take_all))]
+pub fn push_transfers(out: &mut String, numbers: &[u32]) -> Result<(), AllocError>
+    ensures lines { OnOk result (string_bytes out.new ≡ string_bytes out.old ++ transfer_lines numbers.now) }
+    ensures reads_back { ReadsBack }
 {
-    let mut rest = numbers;
-    while let [from, to, heat, more @ ..] = rest {
-        let line = transfer_line(heap, *from, *to, *heat)?;
-        out.push_str(line.as_str())?;
-        rest = more;
+    let (threes, _) = numbers.as_chunks::<3>();
+    for &[from, to, heat] in threes {
+        write!(out, "{}", TransferLine(Transfer { from, to, heat }))?;
     }
     Ok(())
 }

@@ -1,31 +1,51 @@
 // Reads a printed transfer back.
-ghost use Rattle.std.specs.Prelude.{◌≡◌, Some, None, MatchOption};
-ghost use Rattle.printing.specs.ReadBack.{cut, place, reads_transfer};
+ghost use Rattle.std.specs.Prelude.{◌≡◌, ℕ, ◌+◌, ◌<◌, ◌≤◌, true, false, length, drop, Some, None, MatchOption};
+ghost use Rattle.printing.specs.ReadBack.{begins, cut, place, reads_parts, reads_transfer};
 
 use lexing::number;
 use plans::{OUTSIDE, Transfer};
 
+// Where such a text first stands.
+fn find(bytes: &[u8], text: &[u8]) -> Option<usize>
+    requires { 0 < length text.now }
+    ensures nowhere { result ≡ None → (k : ℕ) → k + length text.now ≤ length bytes.now → begins text.now (drop k bytes.now) ≡ false }
+    ensures inside { (i : ℕ) → result ≡ Some i → i + length text.now ≤ length bytes.now }
+    ensures here { (i : ℕ) → result ≡ Some i → begins text.now (drop i bytes.now) ≡ true }
+    ensures not_before { (i : ℕ) → result ≡ Some i → (k : ℕ) → k < i → begins text.now (drop k bytes.now) ≡ false }
+{
+    bytes.windows(text.len()).position(|window| text == window)
+}
+
 // What stands before the first such text, and what after it.
+#[tactic(auto, using(crate::proofs::Cuts::cut_nowhere))]
 fn split_once<'a>(bytes: &'a [u8], text: &[u8]) -> Option<(&'a [u8], &'a [u8])>
+    requires { 0 < length text.now }
     ensures { MatchOption result (cut text.now bytes.now ≡ None) (λ x. cut text.now bytes.now ≡ Some (x.0.now, x.1.now)) }
 {
-    for i in 0..bytes.len() {
-        let rest = &bytes[i..];
-        if rest.starts_with(text) {
-            return Some((&bytes[..i], &rest[text.len()..]));
-        }
-    }
-    None
+    let start = find(bytes, text)?;
+    Some((&bytes[..start], &bytes[start + text.len()..]))
 }
 
 // A degree, or the boiler or the river by its name.
+#[tactic(auto, unfolding(crate::specs::ReadBack::place))]
 fn read_place(name: &[u8], bytes: &[u8]) -> Option<u32>
     ensures { result ≡ place name.now bytes.now }
 {
     if bytes == name {
-        return Some(OUTSIDE);
+        Some(OUTSIDE)
+    } else {
+        number(bytes)
     }
-    number(bytes)
+}
+
+// The transfer that the parts of a line tell.
+fn read_parts(giver: &[u8], taker: &[u8], digits: &[u8]) -> Option<Transfer>
+    ensures { result ≡ reads_parts giver.now taker.now digits.now }
+{
+    let from = read_place(b"boiler", giver)?;
+    let to = read_place(b"river", taker)?;
+    let heat = number(digits)?;
+    Some(Transfer { from, to, heat })
 }
 
 // The transfer that a line tells, if it is such a line.
@@ -34,12 +54,8 @@ pub fn read_transfer(line: &[u8]) -> Option<Transfer>
 {
     let (giver, rest) = split_once(line, b" to ")?;
     let (taker, rest) = split_once(rest, b", ")?;
-    let (digits, rest) = split_once(rest, b"\n")?;
-    if !rest.is_empty() {
-        return None;
+    match split_once(rest, b"\n")? {
+        (digits, []) => read_parts(giver, taker, digits),
+        _ => None,
     }
-    let from = read_place(b"boiler", giver)?;
-    let to = read_place(b"river", taker)?;
-    let heat = number(digits)?;
-    Some(Transfer { from, to, heat })
 }

@@ -7,51 +7,46 @@ mod tests {
     use std::test::Fail;
     use streams::{check, check_with_room};
 
-    // The number and the place of the refusal, or 0 and 0 where all is taken.
-    fn refused(numbers: &[u32], gap: u64, room: &[u32]) -> (u64, usize) {
-        match check_with_room(numbers, gap, room) {
-            Ok(_) => (0, 0),
-            Err(refusal) => (refusal.number(), refusal.place()),
-        }
+    // The number and the place of the refusal, if there is one.
+    fn refused(numbers: &[u32], gap: u64, room: &[u32]) -> Option<(u64, usize)> {
+        let refusal = check_with_room(numbers, gap, room).err()?;
+        Some((refusal.number(), refusal.place()))
     }
 
-    // The same of one stream, with room enough.
-    fn refused_one(mark: u32, low: u32, high: u32, rate: u32, gap: u64) -> (u64, usize) {
-        refused(&[mark, low, high, rate], gap, &[0; 6000])
-    }
-
+    // A stream, a gap, and the number of the refusal, if there is one.
     #[test]
     fn one_stream_at_the_edge_of_each_rule(rt: HostRuntime) {
         let table = [
             // the gap
-            (1, 0, 1, 1, 999, 0),
-            (1, 0, 1, 1, 1000, 2),
-            (1, 0, 1, 1, 1001, 2),
-            (0, 0, 1, 1, u64::MAX, 2),
+            ([1, 0, 1, 1], 999, None),
+            ([1, 0, 1, 1], 1000, Some(2)),
+            ([1, 0, 1, 1], 1001, Some(2)),
+            ([0, 0, 1, 1], u64::MAX, Some(2)),
             // the mark
-            (0, 0, 1, 1, 0, 0),
-            (1, 0, 1, 1, 0, 0),
-            (2, 0, 1, 1, 0, 2),
-            (u32::MAX, 0, 1, 1, 0, 2),
+            ([0, 0, 1, 1], 0, None),
+            ([1, 0, 1, 1], 0, None),
+            ([2, 0, 1, 1], 0, Some(2)),
+            ([u32::MAX, 0, 1, 1], 0, Some(2)),
             // low and high
-            (1, 4, 5, 1, 0, 0),
-            (1, 5, 5, 1, 0, 2),
-            (0, 6, 5, 1, 0, 2),
+            ([1, 4, 5, 1], 0, None),
+            ([1, 5, 5, 1], 0, Some(2)),
+            ([0, 6, 5, 1], 0, Some(2)),
             // high and the gap
-            (0, 0, 1000, 1, 0, 0),
-            (0, 0, 1001, 1, 0, 2),
-            (0, 0, 990, 1, 10, 0),
-            (0, 0, 991, 1, 10, 2),
-            (1, 0, 990, 1, 10, 0),
-            (1, 0, 991, 1, 10, 2),
-            (1, 0, u32::MAX, 1, 1000, 2),
+            ([0, 0, 1000, 1], 0, None),
+            ([0, 0, 1001, 1], 0, Some(2)),
+            ([0, 0, 990, 1], 10, None),
+            ([0, 0, 991, 1], 10, Some(2)),
+            ([1, 0, 990, 1], 10, None),
+            ([1, 0, 991, 1], 10, Some(2)),
+            ([1, 0, u32::MAX, 1], 1000, Some(2)),
             // heat for each degree
-            (1, 0, 1, 0, 0, 2),
-            (1, 0, 1, 1_000_000, 0, 0),
-            (1, 0, 1, 1_000_001, 0, 2),
+            ([1, 0, 1, 0], 0, Some(2)),
+            ([1, 0, 1, 1_000_000], 0, None),
+            ([1, 0, 1, 1_000_001], 0, Some(2)),
         ];
-        for (mark, low, high, rate, gap, number) in table {
-            assert_eq!(rt; refused_one(mark, low, high, rate, gap), (number, 0));
+        for (stream, gap, number) in table {
+            let refusal = number.map(|number| (number, 0));
+            assert_eq!(rt; refused(&stream, gap, &[0; 6000]), refusal);
         }
     }
 
@@ -59,14 +54,17 @@ mod tests {
     #[test]
     fn the_first_stream_that_breaks_a_rule(rt: HostRuntime) {
         let room = [0; 6000];
-        assert_eq!(rt; refused(&[1, 0, 1, 1, 0, 0, 1, 1], 0, &room), (0, 0));
-        assert_eq!(rt; refused(&[1, 0, 1, 1, 0, 1, 1, 1], 0, &room), (2, 1));
-        assert_eq!(rt; refused(&[1, 0, 1, 0, 2, 0, 1, 1], 0, &room), (2, 0));
-        assert_eq!(rt; refused(&[1, 0, 1, 1, 2, 0, 1, 1], 1001, &room), (2, 0));
+        assert_eq!(rt; refused(&[1, 0, 1, 1, 0, 0, 1, 1], 0, &room), None);
+        assert_eq!(rt; refused(&[1, 0, 1, 1, 0, 1, 1, 1], 0, &room), Some((2, 1)));
+        assert_eq!(rt; refused(&[1, 0, 1, 0, 2, 0, 1, 1], 0, &room), Some((2, 0)));
+        assert_eq!(rt;
+            refused(&[1, 0, 1, 1, 2, 0, 1, 1], 1001, &room),
+            Some((2, 0))
+        );
     }
 
     // So many sound streams, and numbers that are no whole stream behind them.
-    fn many(heap: Global, count: usize, more: &[u32]) -> Result<(u64, usize), AllocError> {
+    fn many(heap: Global, count: usize, more: &[u32]) -> Result<Option<(u64, usize)>, AllocError> {
         let mut numbers = Vec::new(heap);
         for _ in 0..count {
             numbers.extend_from_slice(&[1, 0, 1, 1])?;
@@ -77,31 +75,31 @@ mod tests {
 
     #[test]
     fn how_many_numbers(rt: HostRuntime) -> Result<(), Fail> {
-        assert_eq!(rt; refused(&[], 0, &[0; 6000]), (0, 0));
-        assert_eq!(rt; refused(&[], 1000, &[0; 6000]), (0, 0));
-        assert_eq!(rt; refused(&[], 1001, &[0; 6000]), (2, 0));
-        assert_eq!(rt; many(rt.alloc(), 1, &[1, 0, 1])?, (1, 7));
-        assert_eq!(rt; many(rt.alloc(), 64, &[])?, (0, 0));
-        assert_eq!(rt; many(rt.alloc(), 64, &[1])?, (1, 257));
-        assert_eq!(rt; many(rt.alloc(), 65, &[])?, (1, 260));
+        assert_eq!(rt; refused(&[], 0, &[0; 6000]), None);
+        assert_eq!(rt; refused(&[], 1000, &[0; 6000]), None);
+        assert_eq!(rt; refused(&[], 1001, &[0; 6000]), Some((2, 0)));
+        assert_eq!(rt; many(rt.alloc(), 1, &[1, 0, 1])?, Some((1, 7)));
+        assert_eq!(rt; many(rt.alloc(), 64, &[])?, None);
+        assert_eq!(rt; many(rt.alloc(), 64, &[1])?, Some((1, 257)));
+        assert_eq!(rt; many(rt.alloc(), 65, &[])?, Some((1, 260)));
         Ok(())
     }
 
     #[test]
     fn how_large_a_room(rt: HostRuntime) {
         let room = [0; 6001];
-        assert_eq!(rt; refused(&[1, 0, 1, 1], 0, &room[0..5999]), (3, 5999));
-        assert_eq!(rt; refused(&[1, 0, 1, 1], 0, &room[0..6000]), (0, 0));
-        assert_eq!(rt; refused(&[1, 0, 1, 1], 0, &room), (0, 0));
-        assert_eq!(rt; refused(&[1, 0, 1, 1], 0, &[]), (3, 0));
+        assert_eq!(rt; refused(&[1, 0, 1, 1], 0, &room[..5999]), Some((3, 5999)));
+        assert_eq!(rt; refused(&[1, 0, 1, 1], 0, &room[..6000]), None);
+        assert_eq!(rt; refused(&[1, 0, 1, 1], 0, &room), None);
+        assert_eq!(rt; refused(&[1, 0, 1, 1], 0, &[]), Some((3, 0)));
     }
 
     // The rule with the lower number answers.
     #[test]
     fn two_rules_at_once(rt: HostRuntime) {
-        assert_eq!(rt; refused(&[1, 0, 1], 1001, &[]), (1, 3));
-        assert_eq!(rt; refused(&[1, 1, 1, 1], 0, &[]), (2, 0));
-        assert_eq!(rt; refused(&[1, 0, 1, 1], 1001, &[]), (2, 0));
+        assert_eq!(rt; refused(&[1, 0, 1], 1001, &[]), Some((1, 3)));
+        assert_eq!(rt; refused(&[1, 1, 1, 1], 0, &[]), Some((2, 0)));
+        assert_eq!(rt; refused(&[1, 0, 1, 1], 1001, &[]), Some((2, 0)));
     }
 
     // Cold from 20 to 30 with a gap of 10 takes in the degrees 30 to 39, hot from 20 to 30 gives in 20 to 29.

@@ -1,10 +1,10 @@
 -- Laws of what streams give and take: one stream more, bounds, whole streams, another order, a stream cut in two.
-use Rattle.std.proofs.Common.{◌≡◌, ℕ, zero, suc, ◌+◌, ◌-◌, ◌*◌, ◌≤◌, min, Bool, true, false, cond, ◌&&◌, leb, List, [], ◌∷◌, ◌++◌, length, sum_by, sym, refl, ap, ◌∙◌, inl, inr, arith}
+use Rattle.std.proofs.Common.{◌≡◌, ℕ, zero, suc, ◌+◌, ◌-◌, ◌*◌, ◌≤◌, min, Bool, true, false, cond, ◌&&◌, List, [], ◌∷◌, ◌++◌, length, sum_by, sym, refl, ap, ◌∙◌, arith}
 use Rattle.std.specs.List.Sorted.{IsPermutation}
 use Rattle.std.specs.List.{AllByRecursion}
 use Rattle.std.proofs.lemmas.List.Sums.{sum_by-cons}
 use Rattle.std.proofs.lemmas.List.Sorted.{sum_by-IsPermutation}
-use Rattle.std.proofs.lemmas.Bool.{cases_lt, lt-ltb, le-ltb, le-leb, lt-leb}
+use Rattle.std.proofs.lemmas.Bool.Decides.{nat_tests}
 use Rattle.streams.specs.declared.model.Kind.{Kind}
 use Rattle.streams.specs.declared.model.Stream.{Stream}
 use Rattle.streams.specs.Heat.{within, is, heat, load, sum_below}
@@ -27,11 +27,7 @@ load_append k shift (s ∷ ss) ts d = omega (arith, load_cons k shift s ss d, lo
 -- bounds
 pub heat_le : (k : Kind) (shift : ℕ) (s : Stream) (d : ℕ) → heat k shift s d ≤ s.rate
 unfolding heat
-heat_le k shift s d = cond_le (is s.kind k && within (s.low + shift) (s.high + shift) d) s.rate
-  where
-    cond_le : (b : Bool) (n : ℕ) → cond b n 0 ≤ n
-    cond_le true n = omega arith
-    cond_le false n = omega arith
+heat_le k shift s d = grind arith
 
 pub load_le : (k : Kind) (shift most : ℕ) (ss : List Stream) (d : ℕ) → AllByRecursion (λ s. s.rate ≤ most) ss → load k shift ss d ≤ length ss * most
 load_le k shift most [] d a = omega (arith, load_none k shift d)
@@ -48,12 +44,8 @@ pub load_shuffled : (k : Kind) (shift : ℕ) (ss ts : List Stream) (d : ℕ) →
 load_shuffled k shift ss ts d sh = load_sum k shift ss d ∙ sym (sum_by-IsPermutation (λ s. heat k shift s d) ss ts sh) ∙ sym (load_sum k shift ts d)
 
 -- a stream cut in two
-cut_at : (a m b rate d : ℕ) → a ≤ m → m ≤ b → cond (within a m d) rate 0 + cond (within m b d) rate 0 ≡ cond (within a b d) rate 0
-cut_at a m b rate d h k = grind arith
-
 cut_if : (of_kind : Bool) (a m b rate d : ℕ) → a ≤ m → m ≤ b → cond (of_kind && within a m d) rate 0 + cond (of_kind && within m b d) rate 0 ≡ cond (of_kind && within a b d) rate 0
-cut_if true a m b rate d h k = cut_at a m b rate d h k
-cut_if false a m b rate d h k = refl
+cut_if of_kind a m b rate d h k = grind (arith, nat_tests)
 
 heat_cut : (k : Kind) (shift : ℕ) (s : Stream) (m d : ℕ) → s.low ≤ m → m ≤ s.high → heat k shift (lower_part s m) d + heat k shift (upper_part s m) d ≡ heat k shift s d
 unfolding heat
@@ -77,19 +69,7 @@ load_cut k shift ss ts d c =
 
 -- whole streams: what a stream from a up to b has below n
 cover_step : (n a b rate : ℕ) → rate * (min n b - a) + cond (within a b n) rate 0 ≡ rate * (min (suc n) b - a)
-cover_step n a b rate =
-    elim (cases_lt n b) [
-      | inl l ↦
-          elim (cases_lt n a) [
-            | inl k ↦ let z : min (suc n) b - a ≡ min n b - a = omega arith in rw (lt-leb a n k, z) (omega arith)
-            | inr k ↦ let z : min (suc n) b - a ≡ suc (min n b - a) = omega arith in rw (le-leb a n k, lt-ltb n b l, z) (omega arith)
-          ]
-      | inr l ↦ let z : min (suc n) b - a ≡ min n b - a = omega arith in rw (le-ltb n b l, and_false (leb a n), z) (omega arith)
-    ]
-  where
-    and_false : (t : Bool) → (t && false) ≡ false
-    and_false true = refl
-    and_false false = refl
+cover_step n a b rate = grind (arith, nat_tests)
 
 pub sum_cover : (n a b rate : ℕ) → sum_below n (λ d. cond (within a b d) rate 0) ≡ rate * (min n b - a)
 unfolding sum_below

@@ -1,5 +1,5 @@
 -- One stream more, of what the streams of one kind come to in a degree.
-use Rattle.std.proofs.Common.{◌≡◌, ℕ, ◌+◌, ◌*◌, ◌<◌, ◌≤◌, true, false, cond, List, length, get_or, drop, refl, ap, ◌∙◌, arith}
+use Rattle.std.proofs.Common.{◌≡◌, ℕ, ◌+◌, ◌*◌, ◌<◌, ◌≤◌, cond, List, length, get_or, drop, refl, ap, ◌∙◌, arith}
 use Rattle.std.specs.List.{AllByRecursion}
 use Rattle.std.proofs.ByRecursion.{All-from_get_or}
 use Rattle.std.proofs.lemmas.List.{at_drop_more, at_drop_all, length-take, get_or-take}
@@ -8,7 +8,7 @@ use Rattle.streams.specs.declared.model.Kind.TheVariants.{Hot, Cold}
 use Rattle.streams.specs.declared.model.Stream.{Stream}
 use Rattle.streams.specs.declared.loads.Loads.{Loads}
 use Rattle.streams.specs.declared.table.StreamTable.{StreamTable}
-use Rattle.streams.specs.Heat.{within, is, heat, load}
+use Rattle.streams.specs.Heat.{within, heat, load}
 use Rattle.streams.specs.Rules.{Sound, blank}
 use Rattle.streams.specs.Checked.{listed}
 use Rattle.streams.specs.Loaded.{supply_in, demand_in, LoadsOf, Loaded}
@@ -16,20 +16,7 @@ use Rattle.streams.proofs.Sums.{sum_ext}
 use Rattle.streams.proofs.Laws.{load_shuffled, load_cut, load_whole}
 
 pub within_le : (low high d rate : ℕ) → cond (within low high d) rate 0 ≤ rate
-within_le low high d rate = elim (within low high d) as (λ b. cond b rate 0 ≤ rate) [ true ↦ omega arith | false ↦ omega arith ]
-
-is_self : (k : Kind) → is k k ≡ true
-is_self Hot = refl
-is_self Cold = refl
-
-is_other : (k l : Kind) → (k ≡ l → ⊥) → is k l ≡ false
-is_other Hot Hot n = absurd (n refl)
-is_other Hot Cold n = refl
-is_other Cold Hot n = refl
-is_other Cold Cold n = absurd (n refl)
-
-pub cold_not_hot : Cold ≡ Hot → ⊥
-cold_not_hot e = let z : ◌≡◌ {A = ℕ} 0 1 = cc in omega arith
+within_le low high d rate = grind arith
 
 load_more : (k : Kind) (shift : ℕ) (ss : List Stream) (i d : ℕ) → i < length ss → load k shift (drop i ss) d ≡ heat k shift (get_or ss i blank) d + load k shift (drop (i + 1) ss) d
 unfolding load
@@ -37,11 +24,11 @@ load_more k shift ss i d l = at_drop_more (λ xs. load k shift xs d) ss i blank 
 
 heat_is : (k : Kind) (shift : ℕ) (s : Stream) (d : ℕ) → s.kind ≡ k → heat k shift s d ≡ cond (within (s.low + shift) (s.high + shift) d) s.rate 0
 unfolding heat
-heat_is k shift s d e = rw (ap (λ x. is x k) e ∙ is_self k) refl
+heat_is k shift s d e = grind arith
 
 heat_none : (k : Kind) (shift : ℕ) (s : Stream) (d : ℕ) → (s.kind ≡ k → ⊥) → heat k shift s d ≡ 0
 unfolding heat
-heat_none k shift s d n = rw (is_other s.kind k n) refl
+heat_none k shift s d n = grind arith
 
 -- the sums, after the first i streams
 pub record Summed (k : Kind) (shift : ℕ) (ss : List Stream) (i : ℕ) (sums : List ℕ) : Type 0 where
@@ -79,9 +66,6 @@ item_sound t items i e l =
     let n : i < t.count = omega (arith, ap length e, length-take t.count t.streams) in
     let same : get_or items i blank ≡ get_or t.streams i blank = ap (λ (ss : List Stream). get_or ss i blank) e ∙ get_or-take t.count t.streams i blank n in
     (rw same (t.sound i n), omega (arith, t.few))
-
-pub items_few : (t : StreamTable) (items : List Stream) → items ≡ listed t → length items ≤ 64
-items_few t items e = omega (arith, ap length e, length-take t.count t.streams, t.few)
 
 below_top : (t : StreamTable) (shift : ℕ) → shift ≤ t.gap → AllByRecursion (λ s. s.high + shift ≤ 1000) (listed t)
 below_top t shift l =

@@ -35,8 +35,7 @@ sum_swap (suc n) m f = omega (arith, sum_swap n m f, sum_add m (λ j. sum_below 
 pub term_le_sum : (n : ℕ) (f : ℕ → ℕ) (i : ℕ) → i < n → f i ≤ sum_below n f
 unfolding sum_below
 term_le_sum zero f i h = omega arith
-term_le_sum (suc n) f i h =
-    elim (cases_lt i n) [ inl l ↦ omega (arith, term_le_sum n f i l) | inr g ↦ let e : i ≡ n = omega arith in rw e (omega arith) ]
+term_le_sum (suc n) f i h = grind (arith, term_le_sum n f i)
 
 sum_split : (a n : ℕ) (f : ℕ → ℕ) → sum_below (a + n) f ≡ sum_below a f + sum_below n (λ i. f (a + i))
 unfolding sum_below

@@ -1,3 +1,4 @@
+pub mod Numbers
 pub mod Refusals
 pub mod Heat
 pub mod Rules

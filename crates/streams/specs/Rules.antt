@@ -1,5 +1,5 @@
 -- Streams in numbers, and the rules by which they are refused, in their order.
-use Rattle.std.specs.Prelude.{ℕ, ◌+◌, ◌%◌, ◌<◌, ◌≤◌, Bool, true, false, cond, not, ◌||◌, List, [], ◌∷◌, length, Some, None, Ok, Err, Option, Result, ◌==◌, nat_le, nat_lt}
+use Rattle.std.specs.Prelude.{ℕ, ◌+◌, ◌%◌, ◌<◌, ◌≤◌, Bool, true, false, cond, not, ◌||◌, List, [], ◌∷◌, length, Some, None, Ok, Err, Option, Result, ◌==◌, nat_le, nat_lt, slice_index}
 use Rattle.streams.specs.declared.model.Kind.TheVariants.{Hot, Cold}
 use Rattle.streams.specs.declared.model.Stream.{Stream}
 use Rattle.streams.specs.declared.refusals.Refusal.{Refusal}
@@ -72,5 +72,10 @@ abbrev pub unless : Option Refusal → Stream → Result Stream Refusal
 unless None s = Ok s
 unless (Some e) s = Err e
 
-abbrev pub stream_or_refusal : ℕ → ℕ → ℕ → ℕ → ℕ → ℕ → Result Stream Refusal
-stream_or_refusal gap i mark low high rate = unless (stream_refusal gap i mark low high rate) (stream_in mark low high rate)
+abbrev pub stream_or_refusal : ℕ → ℕ → List ℕ → Result Stream Refusal
+stream_or_refusal gap i four =
+    let mark = slice_index four 0 in
+    let low = slice_index four 1 in
+    let high = slice_index four 2 in
+    let rate = slice_index four 3 in
+    unless (stream_refusal gap i mark low high rate) (stream_in mark low high rate)

@@ -22,29 +22,19 @@ const BLANK: Stream = Stream {
 };
 
 // The stream of four numbers at a place, or the first rule that it breaks.
-fn read_stream(
-    gap: u32,
-    place: usize,
-    mark: u32,
-    low: u32,
-    high: u32,
-    rate: u32,
-) -> Result<Stream, Refusal>
+fn read_stream(gap: u32, place: usize, numbers: [u32; 4]) -> Result<Stream, Refusal>
     requires { gap ≤ 1000 }
-    ensures { result ≡ stream_or_refusal gap place mark low high rate }
+    ensures { result ≡ stream_or_refusal gap place numbers }
 {
-    let kind = match mark {
-        0 => Kind::Cold,
-        1 => Kind::Hot,
-        _ => return Err(Refusal::UnknownKind(place)),
-    };
+    let [mark, low, high, rate] = numbers;
+    let kind = Kind::try_from(mark).map_err(|_| Refusal::UnknownKind(place))?;
     if low >= high {
         return Err(Refusal::LowNotBelowHigh(place));
     }
     if high > MOST_TEMPERATURE - gap {
         return Err(Refusal::TooWarm(place));
     }
-    if rate < 1 || rate > MOST_RATE {
+    if !(1..=MOST_RATE).contains(&rate) {
         return Err(Refusal::RateOutOfRange(place));
     }
     Ok(Stream {
@@ -59,27 +49,25 @@ fn read_stream(
 pub fn check(numbers: &[u32], gap: u64) -> Result<StreamTable, Refusal>
     ensures { Checked numbers.now gap result }
 {
-    if numbers.len() % 4 != 0 {
+    let (fours, rest) = numbers.as_chunks::<4>();
+    if !rest.is_empty() {
         return Err(Refusal::NotInFours(numbers.len()));
     }
-    if numbers.len() > 4 * MOST_STREAMS {
+    if fours.len() > MOST_STREAMS {
         return Err(Refusal::TooManyStreams(numbers.len()));
     }
-    if gap > MOST_TEMPERATURE as u64 {
+    if gap > u64::from(MOST_TEMPERATURE) {
         return Err(Refusal::GapTooWide);
     }
     let gap = gap as u32;
     let mut streams = [BLANK; MOST_STREAMS];
-    let mut count = 0;
-    let mut rest = numbers;
-    while let [mark, low, high, rate, more @ ..] = rest {
-        streams[count] = read_stream(gap, count, *mark, *low, *high, *rate)?;
-        count += 1;
-        rest = more;
+    // The slot is named by its place: of what is written through `iter_mut().zip(fours)` a proof knows nothing afterwards.
+    for (place, four) in fours.iter().enumerate() {
+        streams[place] = read_stream(gap, place, *four)?;
     }
     Ok(StreamTable {
         streams,
-        count,
+        count: fours.len(),
         gap,
     })
 }

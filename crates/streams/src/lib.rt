@@ -10,6 +10,6 @@ mod table;
 
 pub use checking::{check, check_with_room};
 pub use loads::Loads;
-pub use model::{DEGREES, Kind, Stream};
+pub use model::{DEGREES, Kind, Stream, UnknownMark};
 pub use refusals::Refusal;
 pub use table::StreamTable;

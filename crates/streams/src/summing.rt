@@ -8,15 +8,26 @@ ghost use Rattle.streams.specs.Loaded.{Loaded};
 use crate::loads::Loads;
 use crate::model::{DEGREES, Kind, Stream};
 use crate::table::StreamTable;
+use std::ops::Range;
 
-// Adds a stream's heat to each degree from its low one up to below its high one, counted as warmer by the shift.
+// The degrees of a stream, from its low one up to below its high one, counted as warmer by the shift.
+fn degrees(s: Stream, shift: u32) -> Range<usize>
+    requires { Sound shift s }
+    ensures from_low { result.start ≡ s.low + shift }
+    ensures to_high { result.end ≡ s.high + shift }
+{
+    (s.low + shift) as usize..(s.high + shift) as usize
+}
+
+// Adds a stream's heat to each of its degrees.
+#[tactic(auto, using(crate::proofs::Raising::raised_part))]
 fn add_stream(sums: &mut [u64; DEGREES], s: Stream, shift: u32)
     requires sound { Sound shift s }
     requires fits { (d : ℕ) → d < 1000 → slice_index sums.old d + s.rate < 2 ^ 64 }
     ensures { (d : ℕ) → d < 1000 → slice_index sums.new d ≡ slice_index sums.old d + (if within (s.low + shift) (s.high + shift) d then s.rate else 0) }
 {
-    for d in (s.low + shift) as usize..(s.high + shift) as usize {
-        sums[d] += s.rate as u64;
+    for sum in &mut sums[degrees(s, shift)] {
+        *sum += u64::from(s.rate);
     }
 }
 
@@ -25,7 +36,7 @@ impl StreamTable {
     pub fn streams(&self) -> &[Stream]
         ensures { result.now ≡ listed self.now }
     {
-        &self.streams[0..self.count]
+        &self.streams[..self.count]
     }
 
     // What they give and take in each degree.

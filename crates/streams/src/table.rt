@@ -5,6 +5,7 @@ ghost use Rattle.streams.specs.Rules.{Sound, blank};
 use crate::model::{MOST_STREAMS, Stream};
 
 // Up to 64 streams, the first `count` of `streams`, with the gap that they are to keep.
+// An array and a count and no growing list: nothing here allocates, and a table is copied as it is.
 #[derive(Clone, Copy)]
 pub struct StreamTable {
     pub(crate) streams: [Stream; MOST_STREAMS],

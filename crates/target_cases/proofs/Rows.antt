@@ -1,6 +1,6 @@
 -- The rows, computed.
-use Rattle.std.proofs.Common.{◌≡◌, ℕ, zero, suc, ◌-◌, ◌<◌, ◌≤◌, Bool, true, ◌&&◌, ltb, Some, None, refl, ◌∙◌, inl, inr, arith}
-use Rattle.std.proofs.lemmas.Bool.{and_parts, cases_lt, ltb-true}
+use Rattle.std.proofs.Common.{◌≡◌, ℕ, zero, suc, ◌-◌, ◌<◌, ◌≤◌, Bool, true, ◌&&◌, ltb, Some, None, refl, ◌∙◌, arith}
+use Rattle.std.proofs.lemmas.Bool.Decides.{nat_tests}
 use Rattle.streams.specs.Heat.{heat, load, sum_below, supply_of, demand_of}
 use Rattle.streams.proofs.Sums.{split_at}
 use Rattle.targets.specs.Deficits.{deficit, most_below, target}
@@ -26,9 +26,7 @@ all_below (suc n) f most = all_below n f most && ltb (f n) most
 
 each_below : (n : ℕ) (f : ℕ → ℕ) (most : ℕ) → all_below n f most ≡ true → (k : ℕ) → k < n → f k < most
 each_below zero f most e k l = absurd (omega arith)
-each_below (suc n) f most e k l =
-    let p = and_parts (all_below n f most) (ltb (f n) most) e in
-    elim (cases_lt k n) [ inl h ↦ each_below n f most p.0 k h | inr h ↦ let same : k ≡ n = omega arith in rw same (ltb-true (f n) most p.1) ]
+each_below (suc n) f most e k l = grind (arith, nat_tests, each_below n f most)
 
 none_lacking : most_below 1000 (lacking (supply_of four) (demand_of 0 four)) ≡ 0
 unfolding four heat load sum_below lacking most_below

@@ -4,19 +4,12 @@
 ghost use Rattle.target_cases.specs.Four.{Row};
 ghost use Rattle.std.specs.Prelude.{Some, None};
 
-// With no gap the four streams need nothing, and 10 goes to the river.
-pub fn four_without_gap() -> u8
-    ensures { Row 0 0 10 None }
-{
-    0
-}
-
-// With a gap of 10 they need 20, 30 goes to the river, and nothing passes at 90.
-pub fn four_with_gap_10() -> u8
-    ensures { Row 10 20 30 (Some 90) }
-{
-    0
-}
+// With no gap the four streams need nothing, and 10 goes to the river. With a gap of 10 they need 20, 30 goes to the river, and nothing passes at 90.
+#[tactic(auto, using(crate::proofs::Rows::without_gap, crate::proofs::Rows::with_gap_10))]
+pub fn four_streams()
+    ensures without_gap { Row 0 0 10 None }
+    ensures with_gap_10 { Row 10 20 30 (Some 90) }
+{}
 
 #[cfg(test)]
 mod tests {
@@ -27,13 +20,9 @@ mod tests {
 
     // What is bought, what goes to the river, and the pinch.
     fn found(numbers: &[u32], gap: u64) -> Option<(u64, u64, Option<usize>)> {
-        match check(numbers, gap) {
-            Ok(table) => {
-                let t = Targets::of_streams(&table);
-                Some((t.heating, t.cooling, t.pinch))
-            }
-            Err(_) => None,
-        }
+        let table = check(numbers, gap).ok()?;
+        let t = Targets::of_streams(&table);
+        Some((t.heating, t.cooling, t.pinch))
     }
 
     #[test]

@@ -1,6 +1,5 @@
 -- The way down from the warmest degree: what is known once the degrees from d up are passed.
 use Rattle.std.proofs.Common.{◌≡◌, ℕ, suc, ◌+◌, ◌-◌, ◌*◌, ◌<◌, ◌≤◌, max, ◌⊎◌, Some, None, Option, sym, refl, inl, inr, arith}
-use Rattle.std.proofs.lemmas.Bool.{cases_eq}
 use Rattle.streams.specs.Heat.{sum_from}
 use Rattle.streams.proofs.Sums.{from_step, from_top}
 use Rattle.targets.specs.Deficits.{deficit, target, Lowest}
@@ -39,7 +38,7 @@ module _ (top : ℕ) (h c : ℕ → ℕ) where
     here = omega (arith, s.supply_is, s.demand_is, from_step top d h inside, from_step top d c inside)
 
     from_here : (most₁ : ℕ) → deficit top h c d ≤ most₁ → most ≤ most₁ → (k : ℕ) → d ≤ k → k < top → deficit top h c k ≤ most₁
-    from_here most₁ l m k dk kt = elim (cases_eq k d) [ inl e ↦ rw e l | inr n ↦ omega (arith, s.most_covers k (omega arith) kt) ]
+    from_here most₁ l m k dk kt = grind (arith, s.most_covers k)
 
     step : (most₁ : ℕ) (pinch₁ : Option ℕ) → deficit top h c d ≤ most₁ → most ≤ most₁ → most₁ ≤ demand + c d → LowestFrom top d (deficit top h c) most₁ pinch₁ →
         Down top h c d (supply + h d) (demand + c d) most₁ pinch₁
@@ -56,8 +55,7 @@ module _ (top : ℕ) (h c : ℕ → ℕ) where
 
     lower : (o : Option ℕ) → deficit top h c d < max most 1 → LowestFrom top (suc d) (deficit top h c) most o → LowestFrom top d (deficit top h c) most o
     lower None l s = s
-    lower (Some e) l s =
-        (omega (arith, s.0), s.1, s.2, s.3, λ k a b. elim (cases_eq k d) [ inl q ↦ rw q (omega (arith, s.2)) | inr n ↦ s.4 k (omega arith) b ])
+    lower (Some e) l s = (omega (arith, s.0), s.1, s.2, s.3, λ k a b. grind (arith, s.4 k))
 
     -- no more is lacking here than above
     pub goes_on : (demand + c d) - (supply + h d) < max most 1 → Down top h c d (supply + h d) (demand + c d) most pinch

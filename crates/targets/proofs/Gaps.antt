@@ -1,12 +1,13 @@
 -- What a gap means: a smaller one never needs more, and what passes keeps it.
-use Rattle.std.proofs.Common.{◌≡◌, ℕ, ◌+◌, ◌-◌, ◌*◌, ◌<◌, ◌≤◌, min, Bool, true, false, cond, ltb, leb, List, [], ◌∷◌, sym, refl, ap, ◌∙◌, inl, inr, mul-le-mul_left, arith}
+use Rattle.std.proofs.Common.{◌≡◌, ℕ, ◌+◌, ◌-◌, ◌*◌, ◌<◌, ◌≤◌, min, Bool, true, false, cond, List, [], ◌∷◌, sym, refl, ap, ◌∙◌, inl, inr, mul-le-mul_left, arith}
 use Rattle.std.specs.List.{ContainsAt}
 use Rattle.std.proofs.ByRecursion.{has_append_right}
-use Rattle.std.proofs.lemmas.Bool.{cases_lt, leb-true, ltb-true, and_parts}
+use Rattle.std.proofs.lemmas.Bool.Decides.{nat_tests}
+use Rattle.std.proofs.lemmas.Bool.{cases_lt}
 use Rattle.streams.specs.declared.model.Kind.{Kind}
 use Rattle.streams.specs.declared.model.Kind.TheVariants.{Hot, Cold}
 use Rattle.streams.specs.declared.model.Stream.{Stream}
-use Rattle.streams.specs.Heat.{within, is, heat, load, supply_of, demand_of, sum_below}
+use Rattle.streams.specs.Heat.{is, heat, load, supply_of, demand_of, sum_below}
 use Rattle.streams.proofs.Sums.{sum_zero, split_at, term_le_sum}
 use Rattle.streams.proofs.Laws.{load_none, load_cons, sum_heat, sum_load_cons}
 use Rattle.targets.specs.Deficits.{deficit, target}
@@ -67,22 +68,9 @@ record Source (k : Kind) (shift : ℕ) (ss : List Stream) (d : ℕ) : Type 0 whe
   pub from_low : stream.low + shift ≤ d
   pub to_high : d < stream.high + shift
 
-is_same : (a b : Kind) → is a b ≡ true → a ≡ b
-is_same Hot Hot e = refl
-is_same Hot Cold e = let z : ◌≡◌ {A = ℕ} 0 1 = cc in absurd (omega arith)
-is_same Cold Hot e = let z : ◌≡◌ {A = ℕ} 0 1 = cc in absurd (omega arith)
-is_same Cold Cold e = refl
-
-if_any : (b : Bool) (n : ℕ) → 0 < cond b n 0 → b ≡ true
-if_any true n l = refl
-if_any false n l = absurd (omega arith)
-
 heat_source : (k : Kind) (shift : ℕ) (s : Stream) (d : ℕ) → 0 < heat k shift s d → (s.kind ≡ k) × (s.low + shift ≤ d) × (d < s.high + shift)
 unfolding heat
-heat_source k shift s d l =
-    let t = and_parts (is s.kind k) (within (s.low + shift) (s.high + shift) d) (if_any _ s.rate l) in
-    let w = and_parts (leb (s.low + shift) d) (ltb d (s.high + shift)) t.1 in
-    (is_same s.kind k t.0, leb-true _ _ w.0, ltb-true _ _ w.1)
+heat_source k shift s d l = grind (arith, nat_tests)
 
 load_source : (k : Kind) (shift : ℕ) (ss : List Stream) (d : ℕ) → 0 < load k shift ss d → Source k shift ss d
 load_source k shift [] d l = absurd (omega (arith, load_none k shift d))

@@ -11,7 +11,7 @@ most_least (suc n) f m e = omega (arith, most_least n f m (λ i h. e i (omega ar
 pub le_most : (n : ℕ) (f : ℕ → ℕ) (i : ℕ) → i < n → f i ≤ most_below n f
 unfolding most_below
 le_most zero f i h = omega arith
-le_most (suc n) f i h = elim (cases_lt i n) [ inl l ↦ omega (arith, le_most n f i l) | inr g ↦ let e : i ≡ n = omega arith in rw e (omega arith) ]
+le_most (suc n) f i h = grind (arith, le_most n f i)
 
 -- it is one of the values, or 0
 pub most_met : (n : ℕ) (f : ℕ → ℕ) → (most_below n f ≡ 0) ⊎ ((i : ℕ) × (i < n) × (f i ≡ most_below n f))

@@ -6,12 +6,11 @@ use Rattle.targets.specs.declared.cascade.Descent.{Descent}
 abbrev pub lacks_most : Descent → ℕ → ℕ → Bool
 lacks_most s give take = nat_le (max s.most 1) ((s.demand + take) - (s.supply + give))
 
-abbrev pub lowered : Descent → ℕ → ℕ → Descent
-lowered s give take =
+abbrev pub lowered : Descent → (degree give take : ℕ) → Descent
+lowered s degree give take =
     record {
-      degree = s.degree - 1;
       supply = s.supply + give;
       demand = s.demand + take;
       most = cond (lacks_most s give take) ((s.demand + take) - (s.supply + give)) s.most;
-      pinch = cond (lacks_most s give take) (Some (s.degree - 1)) s.pinch;
+      pinch = cond (lacks_most s give take) (Some degree) s.pinch;
     }

@@ -5,7 +5,6 @@ ghost use Rattle.targets.specs.Cascade.{lowered};
 // What hot streams give and cold ones take from a degree up, the most that is lacking from any degree that was passed, and the lowest where it is.
 #[derive(Clone, Copy)]
 pub(crate) struct Descent {
-    pub(crate) degree: usize,
     pub(crate) supply: u64,
     pub(crate) demand: u64,
     pub(crate) most: u64,
@@ -13,31 +12,25 @@ pub(crate) struct Descent {
 }
 
 impl Descent {
-    // One degree lower, in which so much is given and taken.
-    pub(crate) fn lower(self, give: u64, take: u64) -> Descent
-        requires { (0 < self.degree) × ((self.supply + give < 2 ^ 64) × (self.demand + take < 2 ^ 64)) }
-        ensures { result ≡ lowered self give take }
+    // Down to this degree, in which so much is given and taken.
+    pub(crate) fn lower(self, degree: usize, give: u64, take: u64) -> Descent
+        requires supply_fits { self.supply + give < 2 ^ 64 }
+        requires demand_fits { self.demand + take < 2 ^ 64 }
+        ensures { result ≡ lowered self degree give take }
     {
-        let degree = self.degree - 1;
         let supply = self.supply + give;
         let demand = self.demand + take;
         let lacking = demand.saturating_sub(supply);
-        if lacking >= self.most.max(1) {
-            Descent {
-                degree,
-                supply,
-                demand,
-                most: lacking,
-                pinch: Some(degree),
-            }
+        let (most, pinch) = if lacking >= self.most.max(1) {
+            (lacking, Some(degree))
         } else {
-            Descent {
-                degree,
-                supply,
-                demand,
-                most: self.most,
-                pinch: self.pinch,
-            }
+            (self.most, self.pinch)
+        };
+        Descent {
+            supply,
+            demand,
+            most,
+            pinch,
         }
     }
 }

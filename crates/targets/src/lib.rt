@@ -8,10 +8,10 @@ ghost use Rattle.streams.specs.Loaded.{supply_in, demand_in};
 ghost use Rattle.targets.specs.Found.{Found, FoundOf};
 
 use cascade::Descent;
-use streams::{DEGREES, Loads, StreamTable};
+use streams::{Loads, StreamTable};
 
 // What the cheapest plan buys and what it sends to the river, and the lowest degree from which as much is lacking as has to be bought.
-#[derive(Clone, Copy)]
+#[derive(Clone, Copy, Debug, PartialEq, Eq)]
 pub struct Targets {
     pub heating: u64,
     pub cooling: u64,
@@ -24,14 +24,14 @@ impl Targets {
         ensures { Found (supply_in loads.now) (demand_in loads.now) result }
     {
         let mut so_far = Descent {
-            degree: DEGREES,
             supply: 0,
             demand: 0,
             most: 0,
             pinch: None,
         };
-        for (give, take) in loads.supply.iter().rev().zip(loads.demand.iter().rev()) {
-            so_far = so_far.lower(*give, *take);
+        let degrees = loads.supply.iter().zip(&loads.demand).enumerate();
+        for (degree, (give, take)) in degrees.rev() {
+            so_far = so_far.lower(degree, *give, *take);
         }
         Targets {
             heating: so_far.most,

@@ -1,3 +1,2 @@
 mod Lining
 mod Printing
-mod Quoting

@@ -1,5 +1,5 @@
 -- What is printed for a text.
-use Rattle.std.specs.Prelude.{◌≡◌, ℕ, ◌*◌, cond, List, [], ◌++◌, take, replicate, Some, Ok, Err, string_bytes, Result, String, slice_index_or}
+use Rattle.std.specs.Prelude.{◌≡◌, ℕ, ◌*◌, Bool, cond, List, [], ◌++◌, take, replicate, Some, Ok, Err, string_bytes, Result, String, slice_index_or}
 use Rattle.std.specs.Option.{unwrap_or}
 use Rattle.std.specs.declared.alloc.Global.{Global}
 use Rattle.streams.specs.Rules.{refusal_with_room}
@@ -15,6 +15,10 @@ use Rattle.text.specs.Asked.{Asked, asked_in, line_of}
 abbrev pub empty_room : List ℕ
 empty_room = replicate 6000 0
 
+-- what is printed for a plan in the room: its targets, and its transfers if they are wished for
+abbrev pub printed_bytes : Written → Bool → List ℕ → List ℕ
+printed_bytes written wished room = first_line_bytes written.targets ++ cond wished (transfer_lines (take (3 * written.transfers) room)) []
+
 -- what is asked is answered by the planner, whose targets are printed, and its transfers if they are wished for
 pub record PrintedFor (text bytes : List ℕ) : Type 0 where
   pub asked : Asked
@@ -22,7 +26,7 @@ pub record PrintedFor (text bytes : List ℕ) : Type 0 where
   pub written : Written
   pub room : List ℕ
   pub answers : Answers asked.numbers (unwrap_or asked.gap 0) empty_room (Ok written) room
-  pub bytes_are : bytes ≡ first_line_bytes written.targets ++ cond asked.plan (transfer_lines (take (3 * written.transfers) room)) []
+  pub bytes_are : bytes ≡ printed_bytes written asked.plan room
 
 -- the line at a place as it is quoted: without its comment and the blanks at its end
 abbrev pub quoted : List ℕ → ℕ → List ℕ

@@ -1,14 +1,13 @@
 -- What a text asks, line by line.
-use Rattle.std.specs.Prelude.{◌≡◌, ℕ, ◌+◌, Bool, true, false, List, [], ◌∷◌, ◌++◌, Some, None, Ok, Err, vec_items, Option, Result, slice_index}
-use Rattle.streams.specs.declared.model.Kind.{Kind}
-use Rattle.streams.specs.declared.model.Kind.TheVariants.{Hot, Cold}
-use Rattle.streams.specs.declared.model.Stream.{Stream}
+use Rattle.std.specs.Prelude.{◌≡◌, ℕ, ◌+◌, Bool, true, false, List, [], ◌∷◌, ◌++◌, Some, None, Ok, Err, map, vec_items, unwrap_or, option_map, option_and_then, Option, Result, slice_index}
+use Rattle.std.specs.List.{flat_map}
+use Rattle.streams.specs.Numbers.{numbers_of}
 use Rattle.streams.specs.declared.refusals.Refusal.{Refusal}
 use Rattle.streams.specs.declared.refusals.Refusal.TheVariants as refusals
 use Rattle.lexing.specs.Lexing.{lines, words, uncommented}
 use Rattle.grammar.specs.declared.statements.Statement.{Statement}
 use Rattle.grammar.specs.declared.statements.Statement.TheVariants as statements
-use Rattle.grammar.specs.Statements.{then, statement}
+use Rattle.grammar.specs.Statements.{statement}
 use Rattle.text.specs.declared.problem.Problem.{Problem}
 use Rattle.text.specs.declared.turned.Turned.{Turned}
 use Rattle.text.specs.declared.turned.Turned.TheVariants.{Unreadable, Refused, NoMemory}
@@ -21,13 +20,6 @@ pub record Asked : Type 0 where
   pub gap : Option ℕ
   pub gap_line : ℕ
   pub plan : Bool
-
-abbrev pub mark_of : Kind → ℕ
-mark_of Hot = 1
-mark_of Cold = 0
-
-abbrev pub four : Stream → List ℕ
-four s = mark_of s.kind ∷ s.low ∷ s.high ∷ s.rate ∷ []
 
 -- the gap and the plan may be asked for once
 abbrev pub with_gap : ℕ → Asked → Option ℕ → ℕ → Option Asked
@@ -42,7 +34,7 @@ with_plan a true = None
 abbrev pub after : ℕ → Asked → Option Statement → Option Asked
 after i a None = Some a
 after i a (Some (statements.Stream s)) =
-    Some (record { numbers = a.numbers ++ four s; stream_lines = a.stream_lines ++ i ∷ []; gap = a.gap; gap_line = a.gap_line; plan = a.plan })
+    Some (record { numbers = a.numbers ++ numbers_of s; stream_lines = a.stream_lines ++ i ∷ []; gap = a.gap; gap_line = a.gap_line; plan = a.plan })
 after i a (Some (statements.Gap g)) = with_gap i a a.gap g
 after i a (Some statements.Plan) = with_plan a a.plan
 
@@ -53,7 +45,7 @@ go_on (Some a) i f = f a
 
 unfoldable pub asked_from : Asked → ℕ → List (List ℕ) → Result Asked ℕ
 asked_from a i [] = Ok a
-asked_from a i (l ∷ ls) = go_on (then (statement (words (uncommented l))) (after i a)) i (λ b. asked_from b (i + 1) ls)
+asked_from a i (l ∷ ls) = go_on (option_and_then (after i a) (statement (words (uncommented l)))) i (λ b. asked_from b (i + 1) ls)
 
 -- nothing is asked at first
 abbrev pub nothing_asked : Asked
@@ -77,7 +69,13 @@ line_of a (refusals.Unreadable i) = slice_index a.stream_lines i
 
 -- what the code has read
 abbrev pub asked_by : Problem → Asked
-asked_by p = record { numbers = vec_items p.numbers; stream_lines = vec_items p.stream_places; gap = p.gap; gap_line = p.gap_place; plan = p.plan }
+asked_by p = record {
+  numbers = flat_map (λ line. numbers_of line.stream) (vec_items p.streams);
+  stream_lines = map (λ line. line.place) (vec_items p.streams);
+  gap = option_map (λ line. line.gap) p.gap;
+  gap_line = unwrap_or (option_map (λ line. line.place) p.gap) 0;
+  plan = p.plan;
+}
 
 -- a line is noted, or refused at its place, or there is no memory
 abbrev pub Noted : Problem → Option Statement → ℕ → Result (Unit {0}) Turned → Problem → Type 0

@@ -1,30 +1,32 @@
 // What a text asks, as it is read so far.
-ghost use Rattle.std.specs.Prelude.{◌≡◌, slice_index_or};
-ghost use Rattle.text.specs.Asked.{four, asked_by, nothing_asked, line_of, Noted};
+ghost use Rattle.std.specs.Prelude.{◌≡◌, IfOk, unwrap_or, slice_index_or};
+ghost use Rattle.text.specs.Asked.{asked_by, nothing_asked, line_of, Noted};
 
 use crate::turned::Turned;
 use grammar::{LineFault, Statement};
-use std::alloc::Global;
-use streams::{Kind, Refusal, Stream};
+use std::alloc::{AllocError, Global};
+use streams::{Refusal, Stream};
 
-// The streams as numbers in fours, with the places of their lines; the gap, if a line gave it, and that line's place; and whether the plan is wished for.
-#[derive(Drop)]
-pub(crate) struct Problem {
-    pub(crate) numbers: Vec<u32>,
-    pub(crate) stream_places: Vec<usize>,
-    pub(crate) gap: Option<u32>,
-    pub(crate) gap_place: usize,
-    pub(crate) plan: bool,
+// A stream, with the place of its line.
+#[derive(Clone, Copy)]
+pub(crate) struct StreamLine {
+    pub(crate) stream: Stream,
+    pub(crate) place: usize,
 }
 
-// A stream as four numbers.
-fn numbers_of(s: Stream) -> [u32; 4]
-    ensures { result ≡ four s }
-{
-    match s.kind {
-        Kind::Hot => [1, s.low, s.high, s.rate],
-        Kind::Cold => [0, s.low, s.high, s.rate],
-    }
+// The gap, with the place of the line that gives it.
+#[derive(Clone, Copy)]
+pub(crate) struct GapLine {
+    pub(crate) gap: u32,
+    pub(crate) place: usize,
+}
+
+// The streams in the order of their lines; the gap, if a line gave it; and whether the plan is wished for.
+#[derive(Drop)]
+pub(crate) struct Problem {
+    pub(crate) streams: Vec<StreamLine>,
+    pub(crate) gap: Option<GapLine>,
+    pub(crate) plan: bool,
 }
 
 impl Problem {
@@ -33,10 +35,8 @@ impl Problem {
         ensures { asked_by result ≡ nothing_asked }
     {
         Problem {
-            numbers: Vec::new(heap),
-            stream_places: Vec::new(heap),
+            streams: Vec::new(heap),
             gap: None,
-            gap_place: 0,
             plan: false,
         }
     }
@@ -51,20 +51,24 @@ impl Problem {
     {
         match said {
             None => {}
-            Some(Statement::Stream(s)) => {
-                self.numbers.extend_from_slice(&numbers_of(s))?;
-                self.stream_places.push(place)?;
+            Some(Statement::Stream(stream)) => {
+                self.streams.push(StreamLine { stream, place })?;
             }
             Some(Statement::Gap(gap)) => {
                 if self.gap.is_some() {
-                    return Err(Turned::Unreadable(place, LineFault::SecondGap));
+                    return Err(Turned::Unreadable {
+                        place,
+                        fault: LineFault::SecondGap,
+                    });
                 }
-                self.gap = Some(gap);
-                self.gap_place = place;
+                self.gap = Some(GapLine { gap, place });
             }
             Some(Statement::Plan) => {
                 if self.plan {
-                    return Err(Turned::Unreadable(place, LineFault::SecondPlan));
+                    return Err(Turned::Unreadable {
+                        place,
+                        fault: LineFault::SecondPlan,
+                    });
                 }
                 self.plan = true;
             }
@@ -72,12 +76,30 @@ impl Problem {
         Ok(())
     }
 
+    // The streams as the planner takes them, each as four numbers.
+    pub(crate) fn numbers(&self, heap: Global) -> Result<Vec<u32>, AllocError>
+        ensures { IfOk result (λ v. v.items ≡ (asked_by self.now).numbers) }
+    {
+        let mut numbers = Vec::new(heap);
+        for line in &self.streams {
+            numbers.extend_from_slice(&<[u32; 4]>::from(line.stream))?;
+        }
+        Ok(numbers)
+    }
+
+    // The gap, which is 0 where no line gave it.
+    pub(crate) fn gap(&self) -> u64
+        ensures { result ≡ unwrap_or (asked_by self.now).gap 0 }
+    {
+        self.gap.map_or(0, |line| u64::from(line.gap))
+    }
+
     // The place of the line that a refusal speaks of.
     pub(crate) fn place_of(&self, refusal: Refusal) -> usize
         ensures { result ≡ line_of (asked_by self.now) refusal }
     {
         match refusal {
-            Refusal::GapTooWide => self.gap_place,
+            Refusal::GapTooWide => self.gap.map_or(0, |line| line.place),
             Refusal::TooManyStreams(_) => self.place_of_stream(64),
             Refusal::NotInFours(i)
             | Refusal::UnknownKind(i)
@@ -91,12 +113,8 @@ impl Problem {
 
     // The place of a stream's line, or 0 where there is no such stream.
     fn place_of_stream(&self, i: usize) -> usize
-        ensures { result ≡ slice_index_or self.now.stream_places.items i 0 }
+        ensures { result ≡ slice_index_or (asked_by self.now).stream_lines i 0 }
     {
-        if i < self.stream_places.len() {
-            self.stream_places[i]
-        } else {
-            0
-        }
+        self.streams.get(i).map_or(0, |line| line.place)
     }
 }

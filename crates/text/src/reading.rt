@@ -4,26 +4,20 @@ ghost use Rattle.text.specs.Asked.{Read};
 use crate::problem::Problem;
 use crate::turned::Turned;
 use grammar::read_line;
-use lexing::split_line;
+use lexing::lines_of;
 use std::alloc::Global;
 
 // What the text asks, or the first line that can't be read.
+#[tactic(auto, using(crate::proofs::Lining::one_line))]
 pub(crate) fn read_problem(heap: Global, text: &[u8]) -> Result<Problem, Turned<'_>>
     ensures { Read text.now result }
 {
     let mut problem = Problem::new(heap);
-    let mut place: usize = 0;
-    let mut rest = text;
-    loop {
-        let (line, more) = split_line(rest);
+    for (place, line) in lines_of(text).enumerate() {
         match read_line(line) {
             Ok(said) => problem.note(said, place)?,
-            Err(fault) => return Err(Turned::Unreadable(place, fault)),
+            Err(fault) => return Err(Turned::Unreadable { place, fault }),
         }
-        let Some(behind) = more else {
-            return Ok(problem);
-        };
-        place += 1;
-        rest = behind;
     }
+    Ok(problem)
 }

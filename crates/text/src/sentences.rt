@@ -1,96 +1,81 @@
 // A sentence that a brewer understands, naming the line as an editor counts it, from 1.
+ghost use Rattle.std.specs.Prelude.{Some};
+ghost use Rattle.text.specs.Sentences.{rule_broken, beginning, said_of};
+
 use crate::turned::Turned;
-use grammar::LineFault;
+use grammar::Shown;
+use std::error::Error;
 use std::fmt;
 use streams::Refusal;
 
-// Bytes of a text, shown safely: the first 40 of them, and those that are no printable ASCII by their number.
+// What is wrong with a line that breaks a rule.
 #[derive(Clone, Copy)]
-struct Shown<'a>(&'a [u8]);
+struct BrokenRule(Refusal);
 
-impl fmt::Display for Shown<'_> {
+impl fmt::Display for BrokenRule {
+    ghost output = { λ rule. Some (rule_broken rule.0) };
+
     fn fmt<W: fmt::Write>(&self, f: &mut fmt::Formatter<W>) -> fmt::Result {
-        for b in self.0.iter().take(40) {
-            if *b >= 32 && *b < 127 {
-                write!(f, "{}", *b as char)?;
-            } else {
-                write!(f, "\\x{:02x}", *b)?;
-            }
-        }
-        if self.0.len() > 40 {
-            return f.write_str("...");
-        }
-        Ok(())
+        f.write_str(match self.0 {
+            Refusal::TooManyStreams(_) => "is one stream more than the 64 that are taken",
+            Refusal::GapTooWide => "has a gap above 1000, and 0 to 1000 is allowed",
+            Refusal::LowNotBelowHigh(_) =>
+                "runs the wrong way or has no width: a hot stream is written from its higher temperature down, a cold one from its lower one up",
+            Refusal::TooWarm(_) =>
+                "is too warm: the higher temperature and the gap may come to 1000 together at most",
+            Refusal::RateOutOfRange(_) => "has heat for each degree that isn't 1 to 1000000",
+            Refusal::NotInFours(_)
+            | Refusal::UnknownKind(_)
+            | Refusal::RoomTooSmall(_)
+            | Refusal::Unreadable(_) => "can't be used",
+        })
     }
 }
 
-// What stands before the line's own word, that word, and what stands behind it.
-fn of_line(fault: LineFault<'_>) -> (&'static str, &[u8], &'static str) {
-    match fault {
-        LineFault::UnknownWord(word) => (
-            "begins with '",
-            word,
-            "', and a line begins with hot, cold, gap or plan",
-        ),
-        LineFault::NumberMissing => (
-            "ends too early: hot and cold are followed by three whole numbers, gap by one",
-            b"",
-            "",
-        ),
-        LineFault::NotANumber(word) => (
-            "has '",
-            word,
-            "' where a whole number below 4294967296 is wanted",
-        ),
-        LineFault::WordTooMany(word) => ("goes on with '", word, "', where nothing more is wanted"),
-        LineFault::SecondGap => ("gives the gap a second time, and once is enough", b"", ""),
-        LineFault::SecondPlan => (
-            "asks for the plan a second time, and once is enough",
-            b"",
-            "",
-        ),
-    }
+// How a sentence begins: with the refusal's number and place, as other languages get them, and the line.
+#[derive(Clone, Copy)]
+struct Beginning {
+    refusal: Refusal,
+    place: usize,
 }
 
-// What stands behind a line that breaks a rule.
-fn of_rule(refusal: Refusal) -> &'static str {
-    match refusal {
-        Refusal::TooManyStreams(_) => "') is one stream more than the 64 that are taken",
-        Refusal::GapTooWide => "') has a gap above 1000, and 0 to 1000 is allowed",
-        Refusal::LowNotBelowHigh(_) =>
-            "') runs the wrong way or has no width: a hot stream is written from its higher temperature down, a cold one from its lower one up",
-        Refusal::TooWarm(_) =>
-            "') is too warm: the higher temperature and the gap may come to 1000 together at most",
-        Refusal::RateOutOfRange(_) => "') has heat for each degree that isn't 1 to 1000000",
-        Refusal::NotInFours(_)
-        | Refusal::UnknownKind(_)
-        | Refusal::RoomTooSmall(_)
-        | Refusal::Unreadable(_) => "') can't be used",
+impl fmt::Display for Beginning {
+    ghost output = { λ b. Some (beginning b.refusal b.place) };
+
+    fn fmt<W: fmt::Write>(&self, f: &mut fmt::Formatter<W>) -> fmt::Result {
+        write!(
+            f,
+            "turned away {} at {}: line {}",
+            self.refusal.number(),
+            self.refusal.place(),
+            self.place.saturating_add(1)
+        )
     }
 }
 
 impl fmt::Display for Turned<'_> {
+    ghost output = { λ turned. Some (said_of turned) };
+
     fn fmt<W: fmt::Write>(&self, f: &mut fmt::Formatter<W>) -> fmt::Result {
-        let (refusal, place, (before, word, behind)) = match self {
-            Turned::Unreadable(place, fault) => (
-                Refusal::Unreadable(*place),
-                *place,
-                of_line(*fault),
+        match *self {
+            Turned::Unreadable { place, fault } => {
+                let refusal = Refusal::Unreadable(place);
+                write!(f, "{} {}", Beginning { refusal, place }, fault)
+            }
+            Turned::Refused {
+                refusal,
+                place,
+                line,
+            } => write!(
+                f,
+                "{} ('{}') {}",
+                Beginning { refusal, place },
+                Shown(line),
+                BrokenRule(refusal)
             ),
-            Turned::Refused(refusal, place, line) => (
-                *refusal,
-                *place,
-                ("('", *line, of_rule(*refusal)),
-            ),
-            Turned::NoMemory => return f.write_str("there is not enough memory for this text"),
-        };
-        let number = refusal.number();
-        let where_to = refusal.place();
-        let line = place.saturating_add(1);
-        let shown = Shown(word);
-        write!(
-            f,
-            "turned away {number} at {where_to}: line {line} {before}{shown}{behind}"
-        )
+            Turned::NoMemory => f.write_str("there is not enough memory for this text"),
+        }
     }
 }
+
+impl Error for Turned<'_> {}

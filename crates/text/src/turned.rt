@@ -8,10 +8,17 @@ use streams::Refusal;
 
 // A line that can't be read, by its place from 0; a rule that the streams or the gap break, with the line that it speaks of, by its place and its bytes; or want of memory,
 // which is no fault of the text.
-#[derive(Clone, Copy)]
+#[derive(Clone, Copy, Debug, PartialEq, Eq)]
 pub enum Turned<'a> {
-    Unreadable(usize, LineFault<'a>),
-    Refused(Refusal, usize, &'a [u8]),
+    Unreadable {
+        place: usize,
+        fault: LineFault<'a>,
+    },
+    Refused {
+        refusal: Refusal,
+        place: usize,
+        line: &'a [u8],
+    },
     NoMemory,
 }
 

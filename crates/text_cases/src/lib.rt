@@ -4,6 +4,7 @@
 #[cfg(test)]
 mod tests {
     use std::alloc::Global;
+    use std::process::Abort;
     use std::test::Fail;
 
     const FOUR: &str = "hot 180 60 3\nhot 150 30 1\ncold 20 135 2\ncold 80 140 4\n";
@@ -14,6 +15,20 @@ mod tests {
             Ok(printed) => Ok(printed),
             Err(turned) => Ok(turned.to_string(heap)?),
         }
+    }
+
+    // Each text of the table, behind these first lines, is answered by what stands beside it.
+    fn expect_each(
+        rt: &impl Abort,
+        heap: Global,
+        first: &str,
+        table: &[(&str, &str)],
+    ) -> Result<(), Fail> {
+        for (more, wanted) in table {
+            let text = format!(in heap; "{first}{more}")?;
+            assert_eq!(rt; said(heap, text.as_bytes())?.as_str(), *wanted, "{}", more);
+        }
+        Ok(())
     }
 
     #[test]
@@ -28,16 +43,7 @@ mod tests {
                 "boiler 140, river 150, nothing passes at 120\n",
             ),
         ];
-        for (gap, wanted) in table {
-            let text = format!(in rt.alloc(); "{FOUR}{gap}")?;
-            assert_eq!(rt;
-                said(rt.alloc(), text.as_bytes())?.as_str(),
-                wanted,
-                "{}",
-                gap
-            );
-        }
-        Ok(())
+        expect_each(&rt, rt.alloc(), FOUR, &table)
     }
 
     // No streams, one, two; blanks, comments, ends of lines; the limits; and plans.
@@ -118,15 +124,7 @@ mod tests {
                 "boiler 0, river 0, nothing is lacking\n2 to 1, 2\n2 to 0, 2\n",
             ),
         ];
-        for (text, wanted) in table {
-            assert_eq!(rt;
-                said(rt.alloc(), text.as_bytes())?.as_str(),
-                wanted,
-                "{}",
-                text
-            );
-        }
-        Ok(())
+        expect_each(&rt, rt.alloc(), "", &table)
     }
 
     // The first line that can't be read is named, whatever the streams are.
@@ -210,15 +208,7 @@ mod tests {
                 "turned away 4 at 1: line 2 begins with 'nonsense', and a line begins with hot, cold, gap or plan",
             ),
         ];
-        for (text, wanted) in table {
-            assert_eq!(rt;
-                said(rt.alloc(), text.as_bytes())?.as_str(),
-                wanted,
-                "{}",
-                text
-            );
-        }
-        Ok(())
+        expect_each(&rt, rt.alloc(), "", &table)
     }
 
     // The line of the first stream that breaks a rule, or of the gap.
@@ -262,15 +252,7 @@ mod tests {
                 "turned away 2 at 0: line 1 ('hot 2 1 1000001') has heat for each degree that isn't 1 to 1000000",
             ),
         ];
-        for (text, wanted) in table {
-            assert_eq!(rt;
-                said(rt.alloc(), text.as_bytes())?.as_str(),
-                wanted,
-                "{}",
-                text
-            );
-        }
-        Ok(())
+        expect_each(&rt, rt.alloc(), "", &table)
     }
 
     #[test]

@@ -4,20 +4,21 @@
 // if the first lies at least the gap above the second. The flow grows by plain search for a path on which more can pass, as long as there is one.
 ghost use Rattle.std.specs.Prelude.{◌<◌};
 
-use crate::lists::{List, Stream};
+use crate::lists::{Kind, List, Stream};
+use crate::trouble::Trouble;
 use std::alloc::{AllocError, Global};
+use std::iter::successors;
 
 // So many degrees of hot streams, and so many of cold ones, can be looked at.
 const WIDTH: usize = 40;
 
-const SOURCE: usize = 2 * WIDTH;
+const SOURCE: Node = Node { number: 2 * WIDTH };
 
-const SINK: usize = 2 * WIDTH + 1;
+const SINK: Node = Node {
+    number: 2 * WIDTH + 1,
+};
 
 const NODES: usize = 2 * WIDTH + 2;
-
-// No node.
-const NOWHERE: usize = NODES;
 
 // More than all streams together give.
 const ANY_AMOUNT: u64 = 1 << 60;
@@ -25,15 +26,21 @@ const ANY_AMOUNT: u64 = 1 << 60;
 // More paths than a search for shortest ones can take.
 const MOST_PATHS: usize = 1_000_000;
 
-// What has to be bought, or that the streams are too wide for a search, or that it took too long.
-#[derive(Clone, Copy)]
-pub enum Least {
-    Amount(u64),
-    TooWide,
-    NoEnd,
+// Hot degrees, counted from the lowest, then cold ones, the source and the sink.
+#[derive(Clone, Copy, PartialEq, Eq)]
+struct Node {
+    number: usize,
+    ghost there: { number < 82 },
 }
 
-// How much more can pass from node to node: hot degrees, counted from the lowest, then cold ones, the source and the sink.
+// A step of a path, from a node to a node.
+#[derive(Clone, Copy)]
+struct Step {
+    from: Node,
+    to: Node,
+}
+
+// How much more can pass from node to node.
 #[derive(Clone, Copy)]
 struct Net {
     left: [[u64; NODES]; NODES],
@@ -42,35 +49,25 @@ struct Net {
 // The nodes that can be reached from the source, in the order in which they were, and from which each was.
 #[derive(Drop)]
 struct Reached {
-    order: Vec<usize>,
-    before: [usize; NODES],
+    order: Vec<Node>,
+    before: [Option<Node>; NODES],
 }
 
 // The lowest temperature of the streams of one kind, if all of them lie within the degrees that can be looked at.
-fn base(streams: &[Stream], hot: bool) -> Option<u32> {
-    let mut low = u32::MAX;
-    let mut high = 0;
-    for s in streams {
-        if s.hot == hot {
-            low = low.min(s.low);
-            high = high.max(s.high);
-        }
-    }
-    if high.saturating_sub(low) as usize > WIDTH {
-        return None;
-    }
-    Some(low)
+fn base(streams: &[Stream], kind: Kind) -> Option<u32> {
+    let lows = streams.iter().filter(|s| s.kind == kind).map(|s| s.low);
+    let highs = streams.iter().filter(|s| s.kind == kind).map(|s| s.high);
+    let low = lows.min().unwrap_or(u32::MAX);
+    let high = highs.max().unwrap_or(0);
+    (high.saturating_sub(low) as usize <= WIDTH).then_some(low)
 }
 
 // What the streams of one kind give or want in the degree that begins at a temperature.
-fn heat_at(streams: &[Stream], hot: bool, degree: u32) -> u64 {
-    let mut heat: u64 = 0;
-    for s in streams {
-        if s.hot == hot && s.low <= degree && degree < s.high {
-            heat = heat.saturating_add(s.rate as u64);
-        }
-    }
-    heat
+fn heat_at(streams: &[Stream], kind: Kind, degree: u32) -> u64 {
+    streams
+        .iter()
+        .filter(|s| s.kind == kind && s.low <= degree && degree < s.high)
+        .fold(0u64, |heat, s| heat.saturating_add(s.rate as u64))
 }
 
 impl Net {
@@ -78,10 +75,10 @@ impl Net {
     fn join(&mut self, hot: usize, hot_degree: u32, cold_base: u32, gap: u32)
         requires { hot < 40 }
     {
-        for i in 0..WIDTH {
+        for (i, left) in self.left[hot][WIDTH..SOURCE.number].iter_mut().enumerate() {
             let cold_degree = cold_base.saturating_add(i as u32);
             if hot_degree >= cold_degree.saturating_add(gap) {
-                self.left[hot][WIDTH + i] = ANY_AMOUNT;
+                *left = ANY_AMOUNT;
             }
         }
     }
@@ -89,17 +86,17 @@ impl Net {
     // What can pass at first, and what is wanted in all; nothing where the streams are too wide for it.
     fn of(list: &List) -> Option<(Net, u64)> {
         let streams = list.streams.as_slice();
-        let hot_base = base(streams, true)?;
-        let cold_base = base(streams, false)?;
+        let hot_base = base(streams, Kind::Hot)?;
+        let cold_base = base(streams, Kind::Cold)?;
         let mut net = Net {
             left: [[0; NODES]; NODES],
         };
         let mut wanted: u64 = 0;
         for i in 0..WIDTH {
             let hot_degree = hot_base.saturating_add(i as u32);
-            let cold_heat = heat_at(streams, false, cold_base.saturating_add(i as u32));
-            net.left[SOURCE][i] = heat_at(streams, true, hot_degree);
-            net.left[WIDTH + i][SINK] = cold_heat;
+            let cold_heat = heat_at(streams, Kind::Cold, cold_base.saturating_add(i as u32));
+            net.left[SOURCE.number][i] = heat_at(streams, Kind::Hot, hot_degree);
+            net.left[WIDTH + i][SINK.number] = cold_heat;
             net.join(i, hot_degree, cold_base, list.gap);
             wanted = wanted.saturating_add(cold_heat);
         }
@@ -107,13 +104,11 @@ impl Net {
     }
 
     // Reaches on from a node.
-    fn reach_from(&self, from: usize, reached: &mut Reached) -> Result<(), AllocError> {
-        let Some(row) = self.left.get(from) else {
-            return Ok(());
-        };
-        for (to, left) in row.iter().enumerate() {
-            if *left > 0 && to != SOURCE && reached.before[to] == NOWHERE {
-                reached.before[to] = from;
+    fn reach_from(&self, from: Node, reached: &mut Reached) -> Result<(), AllocError> {
+        for (number, left) in self.left[from.number].iter().enumerate() {
+            let to = Node { number };
+            if *left > 0 && to != SOURCE && reached.before[number].is_none() {
+                reached.before[number] = Some(from);
                 reached.order.push(to)?;
             }
         }
@@ -124,9 +119,10 @@ impl Net {
     fn reach(&self, heap: Global) -> Result<Reached, AllocError> {
         let mut reached = Reached {
             order: Vec::new(heap),
-            before: [NOWHERE; NODES],
+            before: [None; NODES],
         };
         reached.order.push(SOURCE)?;
+        // By place, since the order grows meanwhile.
         for i in 0..NODES {
             let Some(node) = reached.order.get(i).copied() else {
                 break;
@@ -136,50 +132,50 @@ impl Net {
         Ok(reached)
     }
 
-    // What more can pass on the path to the sink, and nothing if there is none.
-    fn narrowest(&self, reached: &Reached) -> u64 {
-        let mut amount = 0;
-        let mut to = SINK;
-        for _ in 0..NODES {
-            let from = reached.before[to];
-            if from >= NODES {
-                break;
-            }
-            let left = self.left[from][to];
-            amount = if to == SINK { left } else { left.min(amount) };
-            to = from;
-        }
-        amount
+    // What more can pass on a path, unless it has no steps.
+    fn narrowest(&self, path: &[Step]) -> Option<u64> {
+        path.iter()
+            .map(|step| self.left[step.from.number][step.to.number])
+            .min()
     }
 
-    // Passes so much more on the path to the sink; a later path may take it back.
-    fn pass(&mut self, reached: &Reached, amount: u64) {
-        let mut to = SINK;
-        for _ in 0..NODES {
-            let from = reached.before[to];
-            if from >= NODES {
-                break;
-            }
-            self.left[from][to] = self.left[from][to].saturating_sub(amount);
-            self.left[to][from] = self.left[to][from].saturating_add(amount);
-            to = from;
+    // Passes so much more on a path; a later one may take it back.
+    fn pass(&mut self, path: &[Step], amount: u64) {
+        for Step { from, to } in path {
+            let there = &mut self.left[from.number][to.number];
+            *there = there.saturating_sub(amount);
+            let back = &mut self.left[to.number][from.number];
+            *back = back.saturating_add(amount);
         }
     }
 }
 
-// What no flow from hot streams can serve, so that it has to be bought.
-pub fn least_bought(heap: Global, list: &List) -> Result<Least, AllocError> {
+impl Reached {
+    // The step by which a node was reached.
+    fn step_to(&self, to: Node) -> Option<Step> {
+        self.before[to.number].map(|from| Step { from, to })
+    }
+
+    // The steps of the path from the source to the sink, the last first; none if there is no path.
+    fn path(&self, heap: Global) -> Result<Vec<Step>, AllocError> {
+        successors(self.step_to(SINK), |step| self.step_to(step.from))
+            .take(NODES)
+            .collect(heap)
+    }
+}
+
+// What no flow from hot streams can serve, so that it has to be bought; nothing where the streams are too wide for a search.
+pub fn least_bought(heap: Global, list: &List) -> Result<Option<u64>, Trouble> {
     let Some((mut net, mut wanted)) = Net::of(list) else {
-        return Ok(Least::TooWide);
+        return Ok(None);
     };
     for _ in 0..MOST_PATHS {
-        let reached = net.reach(heap)?;
-        let amount = net.narrowest(&reached);
-        if amount == 0 {
-            return Ok(Least::Amount(wanted));
-        }
-        net.pass(&reached, amount);
+        let path = net.reach(heap)?.path(heap)?;
+        let Some(amount) = net.narrowest(path.as_slice()) else {
+            return Ok(Some(wanted));
+        };
+        net.pass(path.as_slice(), amount);
         wanted = wanted.saturating_sub(amount);
     }
-    Ok(Least::NoEnd)
+    Err(Trouble::Wrong("the search for paths does not end"))
 }

@@ -1,14 +1,21 @@
-// Random lists of streams, by their shape.
+// Random lists of streams, by their shape. What tries the planner shares no code with it, so `Kind` and `Stream` are the trials' own.
 use crate::random::Random;
 use std::alloc::{AllocError, Global};
+use std::fmt;
 
 // No stream goes above this temperature with the gap.
 const TOP: u32 = 1000;
 
+#[derive(Clone, Copy, PartialEq, Eq)]
+pub enum Kind {
+    Hot,
+    Cold,
+}
+
 // One stream, in its own temperatures.
 #[derive(Clone, Copy)]
 pub struct Stream {
-    pub hot: bool,
+    pub kind: Kind,
     pub low: u32,
     pub high: u32,
     pub rate: u32,
@@ -73,25 +80,28 @@ impl Shape {
         }
     }
 
-    // A stream between temperatures from `base` up, none above `ceiling`.
-    fn stream(self, hot: bool, base: u32, ceiling: u32, random: &mut Random) -> Stream {
+    // A stream between temperatures from the first of these up, none above the last.
+    fn stream(self, kind: Kind, Span(base, ceiling): Span, random: &mut Random) -> Stream {
         let width = self.width.min(ceiling.saturating_sub(base));
         let steps = width / self.grain.max(1);
         let lower = random.between(0, steps.saturating_sub(1));
         let upper = random.between(lower.saturating_add(1), steps);
         Stream {
-            hot,
+            kind,
             low: base.saturating_add(self.grain.saturating_mul(lower)),
             high: base.saturating_add(self.grain.saturating_mul(upper)),
             rate: self.rate.pick(random),
         }
     }
 
-    fn is_hot(self, random: &mut Random) -> bool {
+    fn kind(self, random: &mut Random) -> Kind {
         match self.kinds {
-            Kinds::Both => random.between(0, 1) == 1,
-            Kinds::HotOnly => true,
-            Kinds::ColdOnly => false,
+            Kinds::Both => match random.between(0, 1) {
+                1 => Kind::Hot,
+                _ => Kind::Cold,
+            },
+            Kinds::HotOnly => Kind::Hot,
+            Kinds::ColdOnly => Kind::Cold,
         }
     }
 
@@ -105,21 +115,75 @@ impl Shape {
             .min(ceiling.saturating_sub(self.width));
         let mut streams = Vec::new(heap);
         for _ in 0..self.streams.pick(random) {
-            let hot = self.is_hot(random);
-            let base = if hot { hot_base } else { cold_base };
-            streams.push(self.stream(hot, base, ceiling, random))?;
+            let kind = self.kind(random);
+            let base = match kind {
+                Kind::Hot => hot_base,
+                Kind::Cold => cold_base,
+            };
+            streams.push(self.stream(kind, Span(base, ceiling), random))?;
         }
         Ok(List { streams, gap })
+    }
+}
+
+impl Stream {
+    // Its heat from a temperature up, as if it were warmer by the shift.
+    fn heat_from(self, shift: u32, temperature: u32) -> u64 {
+        let high = self.high.saturating_add(shift);
+        let low = self.low.saturating_add(shift).max(temperature);
+        high.saturating_sub(low) as u64 * self.rate as u64
+    }
+}
+
+impl From<Stream> for [u32; 4] {
+    fn from(s: Stream) -> [u32; 4] {
+        let mark = match s.kind {
+            Kind::Hot => 1,
+            Kind::Cold => 0,
+        };
+        [mark, s.low, s.high, s.rate]
+    }
+}
+
+// A stream as the program reads it.
+impl fmt::Display for Stream {
+    fn fmt<W: fmt::Write>(&self, f: &mut fmt::Formatter<W>) -> fmt::Result {
+        match self.kind {
+            Kind::Hot => write!(f, "hot {} {} {}", self.high, self.low, self.rate),
+            Kind::Cold => write!(f, "cold {} {} {}", self.low, self.high, self.rate),
+        }
     }
 }
 
 impl List {
     // Four numbers for each stream, as the planner and the judge take them.
     pub fn numbers(&self, heap: Global) -> Result<Vec<u32>, AllocError> {
-        let mut numbers = Vec::new(heap);
+        self.streams
+            .iter()
+            .flat_map(|s| <[u32; 4]>::from(*s))
+            .collect(heap)
+    }
+
+    // The heat of all streams of a kind from a temperature up, where cold ones count as warmer by the gap.
+    pub fn heat_from(&self, kind: Kind, temperature: u32) -> u64 {
+        let shift = match kind {
+            Kind::Hot => 0,
+            Kind::Cold => self.gap,
+        };
+        self.streams
+            .iter()
+            .filter(|s| s.kind == kind)
+            .map(|s| s.heat_from(shift, temperature))
+            .fold(0u64, |sum, heat| sum.saturating_add(heat))
+    }
+}
+
+// A list as the program reads it.
+impl fmt::Display for List {
+    fn fmt<W: fmt::Write>(&self, f: &mut fmt::Formatter<W>) -> fmt::Result {
         for s in &self.streams {
-            numbers.extend_from_slice(&[s.hot as u32, s.low, s.high, s.rate])?;
+            writeln!(f, "{s}")?;
         }
-        Ok(numbers)
+        write!(f, "gap {}", self.gap)
     }
 }

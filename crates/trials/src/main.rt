@@ -8,15 +8,16 @@ mod families;
 mod flow;
 mod lists;
 mod random;
+mod trouble;
 
 use crate::broken::Broken;
-use crate::examine::{Answer, Finding, untouched};
+use crate::examine::{Answer, Found, untouched};
 use crate::families::FAMILIES;
 use crate::lists::{List, Shape};
 use crate::random::Random;
-use anyhow::anyhow;
+use crate::trouble::Trouble;
 use plans::{Done, plan};
-use std::alloc::{AllocError, Global};
+use std::alloc::Global;
 
 // So many lists of each family.
 const LISTS: usize = 1000;
@@ -29,100 +30,99 @@ const LEAST_ROOM: usize = 6000;
 const MOST_ROOM: usize = 6030;
 
 // How many lists had a largest flow beside them, and in how many some heat passes and some is bought.
-#[derive(Clone, Copy)]
+#[derive(Clone, Copy, Default)]
 struct Counts {
     flows: usize,
     mixed: usize,
 }
 
-// The planner's answer for a list is examined, and again with one number of the room changed.
-fn try_plan(heap: Global, list: &List, random: &mut Random) -> Result<Finding, AllocError> {
-    let numbers = list.numbers(heap)?;
-    let fill = random.between(0, u32::MAX);
-    let mut free = [fill; MOST_ROOM];
-    let room = &mut free[0..random.between(LEAST_ROOM as u32, MOST_ROOM as u32) as usize];
-    let done = plan(numbers.as_slice(), u64::from(list.gap), room);
-    let answer = Answer {
-        list,
-        numbers: numbers.as_slice(),
-        done,
-        fill,
-    };
-    let found = answer.examine(heap, room)?;
-    if let Finding::Wrong(_) = found {
-        return Ok(found);
-    }
-    if let Some(number) = room.get_mut(random.between(0, answer.words()) as usize) {
-        *number = number.wrapping_add(random.between(1, 9));
-    }
-    match answer.examine(heap, room)? {
-        Finding::Wrong(_) => Ok(found),
-        _ => Ok(Finding::Wrong("a number of the room is changed, and all is found good")),
+impl Counts {
+    fn add(&mut self, found: Found) {
+        self.flows = self.flows.saturating_add(found.beside_flow as usize);
+        self.mixed = self.mixed.saturating_add(found.mixed as usize);
     }
 }
 
-// Whether the list, made to break one rule, is turned away by its number, and nothing changed.
-fn try_broken(heap: Global, list: &List, random: &mut Random) -> Result<bool, AllocError> {
-    let broken = Broken::by_chance(heap, list, random)?;
-    let fill = random.between(0, u32::MAX);
-    let mut free = [fill; MOST_ROOM];
-    let room = &mut free[0..broken.room.min(MOST_ROOM)];
-    match plan(broken.numbers.as_slice(), broken.gap, room) {
-        Done::Refused(number) => Ok(number == broken.number && untouched(room, fill)),
-        Done::Planned(_, _) => Ok(false),
-    }
+// What all trials draw on.
+#[derive(Clone, Copy)]
+struct Trials {
+    heap: Global,
+    random: Random,
 }
 
-fn try_list(heap: Global, list: &List, random: &mut Random) -> Result<Finding, AllocError> {
-    let found = try_plan(heap, list, random)?;
-    if let Finding::Wrong(_) = found {
-        return Ok(found);
-    }
-    if !try_broken(heap, list, random)? {
-        return Ok(Finding::Wrong(
-            "made to break a rule, the list is not turned away by its number, or the room is touched",
-        ));
-    }
-    Ok(found)
-}
-
-// Shows a list as the program would read it, and fails.
-fn complain(rt: &HostRuntime, list: &List, what: &'static str) -> anyhow::Result<()> {
-    for s in &list.streams {
-        let rate = s.rate;
-        let (kind, from, to) = if s.hot {
-            ("hot", s.high, s.low)
-        } else {
-            ("cold", s.low, s.high)
+impl Trials {
+    // The planner's answer for a list is examined, and again with one number of the room changed.
+    fn try_plan(&mut self, list: &List) -> Result<Found, Trouble> {
+        let numbers = list.numbers(self.heap)?;
+        let fill = self.random.between(0, u32::MAX);
+        let mut free = [fill; MOST_ROOM];
+        let length = self.random.between(LEAST_ROOM as u32, MOST_ROOM as u32);
+        let room = &mut free[..length as usize];
+        let done = plan(numbers.as_slice(), u64::from(list.gap), room);
+        let answer = Answer {
+            list,
+            numbers: numbers.as_slice(),
+            done,
+            fill,
         };
-        println!(rt; "{kind} {from} {to} {rate}")?;
-    }
-    let gap = list.gap;
-    println!(rt; "gap {gap}")?;
-    Err(anyhow!("{what}"))
-}
-
-// So many lists of one shape.
-fn try_family(rt: &HostRuntime, shape: Shape, random: &mut Random) -> anyhow::Result<Counts> {
-    let mut flows: usize = 0;
-    let mut mixed: usize = 0;
-    for _ in 0..LISTS {
-        let list = shape.list(rt.alloc(), random)?;
-        match try_list(rt.alloc(), &list, random)? {
-            Finding::Good(kind) => {
-                flows = flows.saturating_add(kind.beside_flow as usize);
-                mixed = mixed.saturating_add(kind.mixed as usize);
-            }
-            Finding::Wrong(what) => complain(rt, &list, what)?,
+        let found = answer.examine(self.heap, room)?;
+        if let Some(number) = room.get_mut(self.random.between(0, answer.words()) as usize) {
+            *number = number.wrapping_add(self.random.between(1, 9));
+        }
+        match answer.examine(self.heap, room) {
+            Err(Trouble::NoMemory) => Err(Trouble::NoMemory),
+            Err(_) => Ok(found),
+            Ok(_) => Err(Trouble::Wrong("a number of the room is changed, and all is found good")),
         }
     }
-    Ok(Counts { flows, mixed })
+
+    // The list, made to break one rule, is turned away by its number, and nothing changed.
+    fn try_broken(&mut self, list: &List) -> Result<(), Trouble> {
+        let broken = Broken::by_chance(self.heap, list, &mut self.random)?;
+        let fill = self.random.between(0, u32::MAX);
+        let mut free = [fill; MOST_ROOM];
+        let room = &mut free[..broken.room.min(MOST_ROOM)];
+        match plan(broken.numbers.as_slice(), broken.gap, room) {
+            Done::Refused(number) if number == broken.rule.number() && untouched(room, fill) => {
+                Ok(())
+            }
+            _ => Err(Trouble::Wrong(
+                "made to break a rule, the list is not turned away by its number, or the room is touched",
+            )),
+        }
+    }
+
+    fn try_list(&mut self, list: &List) -> Result<Found, Trouble> {
+        let found = self.try_plan(list)?;
+        self.try_broken(list)?;
+        Ok(found)
+    }
+
+    // So many lists of one shape. The streams that show a difference are printed.
+    fn try_family(&mut self, rt: &HostRuntime, shape: Shape) -> anyhow::Result<Counts> {
+        let mut counts = Counts::default();
+        for _ in 0..LISTS {
+            let list = shape.list(self.heap, &mut self.random)?;
+            match self.try_list(&list) {
+                Ok(found) => counts.add(found),
+                Err(Trouble::NoMemory) => return Err(Trouble::NoMemory.into()),
+                Err(trouble) => {
+                    println!(rt; "{list}")?;
+                    return Err(trouble.into());
+                }
+            }
+        }
+        Ok(counts)
+    }
 }
 
 fn run(rt: &HostRuntime) -> anyhow::Result<()> {
-    let mut random = Random(SEED);
+    let mut trials = Trials {
+        heap: rt.alloc(),
+        random: Random(SEED),
+    };
     for (name, shape) in &FAMILIES {
-        let Counts { flows, mixed } = try_family(rt, *shape, &mut random)?;
+        let Counts { flows, mixed } = trials.try_family(rt, *shape)?;
         println!(rt;
             "{name}: {LISTS} lists, {flows} beside a largest flow, {mixed} pass some heat and buy some"
         )?;

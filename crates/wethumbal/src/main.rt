@@ -45,53 +45,48 @@ fn input(rt: &HostRuntime, name: &str) -> io::Result<Vec<u8>> {
 
 // One more line behind the text.
 fn add_line(text: &mut Vec<u8>, line: &str) -> Result<(), AllocError> {
-    if text.last().copied().unwrap_or(b'\n') != b'\n' {
+    if text.last().is_some_and(|b| *b != b'\n') {
         text.push(b'\n')?;
     }
     text.extend_from_slice(line.as_bytes())
 }
 
-// Prints the answer, or why there is none, and says whether there is one.
-fn answer(rt: &HostRuntime, text: &[u8]) -> io::Result<bool> {
+// Prints the answer, or why there is none.
+fn answer(rt: &HostRuntime, text: &[u8]) -> io::Result<ExitCode> {
     match text::answer(rt.alloc(), text) {
         Ok(printed) => {
             rt.print(printed)?;
-            Ok(true)
+            Ok(ExitCode::SUCCESS)
         }
         Err(turned) => {
             eprintln!(rt; "{turned}")?;
-            Ok(false)
+            Ok(ExitCode::FAILURE)
         }
     }
 }
 
-// Does what the words of the command say, and says whether there is an answer.
-fn run(rt: &HostRuntime) -> anyhow::Result<bool> {
+// Does what the words of the command say.
+fn run(rt: &HostRuntime) -> anyhow::Result<ExitCode> {
     let mut args = env::args(rt)?;
     let _program = args.next();
-    let name = match args.next() {
-        Some(name) => name,
-        None => String::from_str(rt.alloc(), "-")?,
-    };
-    if name.as_str() == "--help" {
-        rt.print(HELP)?;
-        return Ok(true);
+    let named = args.next();
+    match named.as_deref().unwrap_or("-") {
+        "--help" => rt.print(HELP)?,
+        "--version" => rt.print(VERSION)?,
+        name => {
+            let mut text = input(rt, name)?;
+            for line in args {
+                add_line(&mut text, line.as_str())?;
+            }
+            return Ok(answer(rt, text.as_slice())?);
+        }
     }
-    if name.as_str() == "--version" {
-        rt.print(VERSION)?;
-        return Ok(true);
-    }
-    let mut text = input(rt, name.as_str())?;
-    for line in args {
-        add_line(&mut text, line.as_str())?;
-    }
-    Ok(answer(rt, text.as_slice())?)
+    Ok(ExitCode::SUCCESS)
 }
 
 fn main(rt: HostRuntime) -> io::Result<ExitCode> {
     match run(&rt) {
-        Ok(true) => Ok(ExitCode::SUCCESS),
-        Ok(false) => Ok(ExitCode::FAILURE),
+        Ok(status) => Ok(status),
         Err(e) => {
             eprintln!(rt; "wethumbal: there is no answer: {e}")?;
             Ok(ExitCode::FAILURE)

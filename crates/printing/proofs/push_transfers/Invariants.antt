@@ -1,9 +1,7 @@
-use Rattle.std.proofs.Common.{◌≡◌, ◌++◌, length, string_bytes}
-use Rattle.printing.specs.Printed.{transfer_lines}
+use Rattle.std.proofs.Common.{◌≡◌, ◌++◌, take, string_bytes}
+use Rattle.std.specs.List.{flat_map}
+use Rattle.printing.proofs.Threes.{line_of}
 use Rattle.printing.proofs.push_transfers.Given as goal
 
-abbrev pub invariant-loop-rest : goal.invariant-loop-rest
-invariant-loop-rest l = string_bytes l.out ++ transfer_lines l.rest ≡ string_bytes l.initial.out ++ transfer_lines l.numbers
-
-abbrev pub decreases-loop-rest : goal.decreases-loop-rest
-decreases-loop-rest l = length l.rest
+abbrev pub invariant-loop-from : goal.invariant-loop-from
+invariant-loop-from l = string_bytes l.out ≡ string_bytes l.initial.out ++ flat_map line_of (take l.from-index l.threes)

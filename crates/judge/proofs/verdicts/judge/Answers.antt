@@ -1,37 +1,24 @@
-use Rattle.std.proofs.Common.{arith}
-use Rattle.std.proofs.lemmas.Bool.Decides.{not_from_Decides}
-use Rattle.judge.specs.declared.verdicts.Verdict.TheVariants.{Good, Unfit, OutOfOrder, Unbalanced}
-use Rattle.judge.specs.Verdicts.{advised, Fit, Judged}
-use Rattle.judge.proofs.Adding.{advised_count}
-use Rattle.judge.proofs.Sorting.{none_out, some_out, feasible}
+use Rattle.std.proofs.Common.{rules}
+use Rattle.std.proofs.lemmas.Result.{err_from_is_err_and}
+use Rattle.judge.specs.Verdicts.{Judged}
 use Rattle.judge.proofs.Agreeing.{just}
+use Rattle.judge.proofs.Judging.{not_in_order, in_order}
 use Rattle.judge.proofs.verdicts.judge.Goals as goal
 
-pub returns-then-not-is_fit : goal.returns-then-not-is_fit
-returns-then-not-is_fit c =
-    let j : Judged c.args.streams.now c.args.gap c.args.room.now c.args.transfers Unfit = not_from_Decides c.is_fit.result c.is_fit.ensures c.if-not-is_fit.true in
-    record { judged = j; just = just c.args.streams.now c.args.gap c.args.room.now c.args.transfers Unfit j }
+pub returns-in_err-case-clause-just : goal.returns-in_err-case-clause-just
+returns-in_err-case-clause-just c =
+    let j : Judged c.args.streams.now c.args.gap c.args.room.now c.args.transfers c.from_residual.result = search rules in
+    just _ _ _ _ _ j
 
-pub returns-in-Some : goal.returns-in-Some
-returns-in-Some c =
-    let fit : Fit c.args.streams.now c.args.room.now c.args.transfers = c.is_fit.ensures.0 c.if-not-is_fit.false in
-    let out = some_out (advised c.args.room.now c.args.transfers) c.in-Some.place c.in-Some.ensures in
-    let j : Judged c.args.streams.now c.args.gap c.args.room.now c.args.transfers (OutOfOrder c.in-Some.place)
-    = (fit, omega (arith, out.0, advised_count c.args.room.now c.args.transfers fit.fits), out.1, out.2) in
-    record { judged = j; just = just c.args.streams.now c.args.gap c.args.room.now c.args.transfers (OutOfOrder c.in-Some.place) j }
-
-pub returns-in-Some-first_unbalanced : goal.returns-in-Some-first_unbalanced
-returns-in-Some-first_unbalanced c =
-    let fit : Fit c.args.streams.now c.args.room.now c.args.transfers = c.is_fit.ensures.0 c.if-not-is_fit.false in
-    let o = none_out (advised c.args.room.now c.args.transfers) c.in_default.ensures in
-    let d = c.in-Some-first_unbalanced.ensures in
-    let j : Judged c.args.streams.now c.args.gap c.args.room.now c.args.transfers (Unbalanced c.in-Some-first_unbalanced.degree) = (fit, o, d.0, d.1, d.2) in
-    record { judged = j; just = just c.args.streams.now c.args.gap c.args.room.now c.args.transfers (Unbalanced c.in-Some-first_unbalanced.degree) j }
+pub returns-in_err-check_order : goal.returns-in_err-check_order
+returns-in_err-check_order c =
+    let p = err_from_is_err_and c.from_residual-in_err-check_order.result c.from_residual-in_err-check_order.ensures.1 in
+    let of = c.in_ok-case.ensures in
+    let j = not_in_order c.args.streams.now c.args.gap c.args.room.now c.args.transfers _ _ of.fit of.plan c.in_err-check_order.ensures in
+    rw (p.1, p.2) (record { judged = j; just = just _ _ _ _ _ j })
 
 pub returns : goal.returns
 returns c =
-    let fit : Fit c.args.streams.now c.args.room.now c.args.transfers = c.is_fit.ensures.0 c.if-not-is_fit.false in
-    let o = none_out (advised c.args.room.now c.args.transfers) c.in_default.ensures in
-    let j : Judged c.args.streams.now c.args.gap c.args.room.now c.args.transfers Good
-    = (fit, o.ordered, feasible c.args.streams.now c.args.gap (advised c.args.room.now c.args.transfers) o c.in_default-first_unbalanced.ensures) in
-    record { judged = j; just = just c.args.streams.now c.args.gap c.args.room.now c.args.transfers Good j }
+    let of = c.in_ok-case.ensures in
+    let j = in_order c.args.streams.now c.args.gap c.args.room.now c.args.transfers _ _ _ _ of.fit of.streams of.gap of.plan c.in_ok-check_order.ensures c.check_balance.ensures in
+    record { judged = j; just = just _ _ _ _ _ j }

@@ -1,14 +1,9 @@
-use Rattle.streams.proofs.Taken.{room_enough}
 use Rattle.streams.specs.Loaded.{LoadsOf}
 use Rattle.streams.specs.Rules.{streams_in}
 use Rattle.targets.specs.Found.{FoundOf}
 use Rattle.targets.proofs.Promises.{found_of}
 use Rattle.plans.proofs.Promised.{cheapest_plan}
 use Rattle.plans.proofs.entry.write_plan.Goals as goal
-
-pub lay_out-transfers-requires : goal.lay_out-transfers-requires
-lay_out-transfers-requires c =
-    record { least = c.of-targets.ensures.heating_is; roomy = room_enough c.args.streams.now c.args.gap c.args.room.now c.in_ok-table.ensures.0 }
 
 pub returns : goal.returns
 returns c =

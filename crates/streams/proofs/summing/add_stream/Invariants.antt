@@ -1,6 +1,5 @@
-use Rattle.std.proofs.Common.{◌≡◌, ℕ, ◌+◌, cond, get_or}
-use Rattle.streams.specs.Heat.{within}
+use Rattle.std.proofs.Common.{◌≡◌, ℕ, ◌+◌, cond, get_or, nat_lt}
 use Rattle.streams.proofs.summing.add_stream.Given as goal
 
-abbrev pub invariant-loop-d : goal.invariant-loop-d
-invariant-loop-d l = (k : ℕ) → get_or l.sums k 0 ≡ get_or l.initial.sums k 0 + cond (within (l.s.low + l.shift) l.d k) l.s.rate 0
+abbrev pub invariant-loop-sum : goal.invariant-loop-sum
+invariant-loop-sum l = (k : ℕ) → get_or l.sum-items k 0 ≡ get_or l.initial.sum-items k 0 + cond (nat_lt k l.sum-index) l.s.rate 0

@@ -1,8 +1,10 @@
+use Rattle.std.proofs.Common.{◌≡◌}
 use Rattle.std.specs.Slice.Iter.{iter_rest}
-use Rattle.std.specs.Iterator.Adapters.{rev_source, zip_first, zip_second}
+use Rattle.std.specs.Iterator.Adapters.{rev_source, enumerate_source, enumerate_count, zip_first, zip_second}
 use Rattle.targets.proofs.Turns.{Turn}
 use Rattle.targets.proofs.Targets.of.Given as goal
 
-abbrev pub invariant-loop-give : goal.invariant-loop-give
-invariant-loop-give l =
-    Turn l.loads.supply l.loads.demand (iter_rest (rev_source (zip_first l.give-iterator))) (iter_rest (rev_source (zip_second l.give-iterator))) l.so_far
+abbrev pub invariant-loop-degree : goal.invariant-loop-degree
+invariant-loop-degree l =
+    let pairs = enumerate_source (rev_source l.degree-iterator) in
+    Turn l.loads (iter_rest (zip_first pairs)) (iter_rest (zip_second pairs)) l.so_far × (enumerate_count (rev_source l.degree-iterator) ≡ 0)

@@ -1,19 +1,16 @@
-use Rattle.std.proofs.Common.{◌≡◌, ◌-◌, [], get_or, ap, ◌∙◌, arith}
-use Rattle.lexing.specs.Lexing.{lines}
-use Rattle.text.proofs.Lining.{next_line, last_line, some_line}
-use Rattle.text.proofs.Quoting.{line_behind, line_here}
+use Rattle.std.proofs.Common.{unwrap_or, ap, ◌∙◌, [], List, ℕ, ◌≡◌, Bor, Some, None, Option, option_map}
+use Rattle.std.proofs.lemmas.Option.{unwrap_or-slice_get}
+use Rattle.std.proofs.lemmas.Iterator.Consumers.{nth_from_yields_List, YieldsList-from_first}
+use Rattle.lexing.specs.Lexing.{lines, lines_to_come}
 use Rattle.text.proofs.answering.line_at.Goals as goal
 
-pub loop-i-init : goal.loop-i-init
-loop-i-init c = let e : c.args.place - 0 ≡ c.args.place = omega arith in ap (λ n. get_or (lines c.args.text.now) n []) e
-
-pub loop-i-preserved : goal.loop-i-preserved
-loop-i-preserved c = line_behind _ _ _ c.args.place c.loop-i._i (next_line c.loop-i.rest.now _ _ _ c.split_line.ensures c.in-Some.is) (omega arith) ∙ c.loop-i.invariant
-
-pub returns-in_default : goal.returns-in_default
-returns-in_default c = line_behind _ [] _ c.args.place c.loop-i._i (last_line c.loop-i.rest.now _ _ c.split_line.ensures c.in_default.is) (omega arith) ∙ c.loop-i.invariant
+-- what is read of a value or of another one
+read_or : (o : Option (Bor (List ℕ))) (d r : Bor (List ℕ)) → r ≡ unwrap_or o d → r.now ≡ unwrap_or (option_map (λ x. x.now) o) d.now
+read_or None d r e = ap (λ (x : Bor (List ℕ)). x.now) e
+read_or (Some x) d r e = ap (λ (y : Bor (List ℕ)). y.now) e
 
 pub returns : goal.returns
 returns c =
-    let l = some_line c.loop-i.rest.now _ _ c.split_line-2.ensures in
-    line_here _ _ _ c.args.place c.loop-i._i l.1 (omega arith) ∙ c.loop-i.invariant
+    read_or c.nth.result _ c.unwrap_or.result c.unwrap_or.ensures
+    ∙ ap (λ (o : Option (List ℕ)). unwrap_or o []) (nth_from_yields_List c.nth.result _ c.args.place c.nth.ensures.ran (YieldsList-from_first (λ x. x.now) lines_to_come (lines c.args.text.now) c.lines_of.ensures.all))
+    ∙ unwrap_or-slice_get (lines c.args.text.now) c.args.place []

@@ -1,24 +1,14 @@
-use Rattle.std.proofs.Common.{ℕ, ◌≤◌, List, length, sym, ap, ◌∙◌, arith}
+use Rattle.std.proofs.Common.{ℕ, List, ap, ◌∙◌, arith}
 use Rattle.std.proofs.lemmas.List.{get_or-replicate}
 use Rattle.streams.specs.declared.model.Kind.TheVariants.{Hot, Cold}
 use Rattle.streams.specs.declared.model.Stream.{Stream}
 use Rattle.streams.specs.Heat.{load}
-use Rattle.streams.proofs.Loading.{summed_none, summed_more, summed_past, summed_all, item_sound, items_few, cold_not_hot, loaded}
+use Rattle.streams.proofs.Loading.{summed_none, summed_more, summed_past, summed_all, item_sound, loaded}
 use Rattle.streams.proofs.table.StreamTable.loads.Goals as goal
 use Rattle.streams.proofs.table.StreamTable.loads.Goals.{in-Hot, in-Cold}
 
 pub loop-s-init : goal.loop-s-init
 loop-s-init c = (summed_none _ _ _ _ (λ d l. get_or-replicate {A = ℕ} 1000 d 0 0 l), summed_none _ _ _ _ (λ d l. get_or-replicate {A = ℕ} 1000 d 0 0 l))
-
-pub add_stream-requires : goal.add_stream-requires
-add_stream-requires c =
-    let item = item_sound c.args.self.now _ _ c.streams-s-items.ensures c.loop-s-test.true in
-    record { sound = (item.0.0, omega arith, item.0.2, item.0.3); fits = λ d l. omega (arith, c.loop-s.invariant.0.few d l) }
-
-pub add_stream-requires-in-Cold : goal.add_stream-requires-in-Cold
-add_stream-requires-in-Cold c =
-    let item = item_sound c.args.self.now _ _ c.streams-s-items.ensures c.loop-s-test.true in
-    record { sound = item.0; fits = λ d l. omega (arith, c.loop-s.invariant.1.few d l) }
 
 pub loop-s-preserved : goal.loop-s-preserved
 loop-s-preserved c =
@@ -27,19 +17,14 @@ loop-s-preserved c =
       | in-Hot w ↦
           rw (w.supply-is, w.demand-is) (
             summed_more Hot 0 _ _ _ _ c.loop-s-test.true w.in-Hot.is item.0.3 w.add_stream.ensures c.loop-s.invariant.0,
-            summed_past Cold _ _ _ _ c.loop-s-test.true (λ e. cold_not_hot (sym e ∙ w.in-Hot.is)) c.loop-s.invariant.1,
+            summed_past Cold _ _ _ _ c.loop-s-test.true (λ e. cc) c.loop-s.invariant.1,
           )
       | in-Cold w ↦
           rw (w.supply-is, w.demand-is) (
-            summed_past Hot _ _ _ _ c.loop-s-test.true (λ e. cold_not_hot (sym w.in-Cold.is ∙ e)) c.loop-s.invariant.0,
+            summed_past Hot _ _ _ _ c.loop-s-test.true (λ e. cc) c.loop-s.invariant.0,
             summed_more Cold _ _ _ _ _ c.loop-s-test.true w.in-Cold.is item.0.3 w.add_stream-in-Cold.ensures c.loop-s.invariant.1,
           )
     ]
-
-pub invariant_of-result : goal.invariant_of-result
-invariant_of-result c =
-    let few : length c.streams-s-items.result.now ≤ 64 = items_few c.args.self.now _ c.streams-s-items.ensures in
-    record { supply_few = λ d l. omega (arith, c.loop-s.invariant.0.few d l); demand_few = λ d l. omega (arith, c.loop-s.invariant.1.few d l) }
 
 pub returns : goal.returns
 returns c =

@@ -1,5 +1,0 @@
-use Rattle.std.proofs.Common.{◌<◌}
-use Rattle.trials.proofs.flow.Net.pass.Given as goal
-
-abbrev pub invariant-loop : goal.invariant-loop
-invariant-loop l = l.to < 82
