@@ -1,9 +1,10 @@
 -- What the words of a line say; a line that can't be read says None.
-use Rattle.std.specs.Prelude.{ℕ, List, [], ◌∷◌, Some, None, Option, option_and_then}
+use Rattle.std.specs.Prelude.{ℕ, List, [], ◌∷◌, Some, None, Option}
 use Rattle.streams.specs.declared.model.Kind.{Kind}
 use Rattle.streams.specs.declared.model.Kind.TheVariants.{Hot, Cold}
 use Rattle.streams.specs.declared.model.Stream.{Stream}
 use Rattle.lexing.specs.Lexing.{number_in}
+use Rattle.lexing.specs.Steps.{◌>>=◌}
 use Rattle.grammar.specs.declared.keywords.Keyword.{Keyword}
 use Rattle.grammar.specs.declared.keywords.Keyword.TheVariants as keywords
 use Rattle.grammar.specs.declared.statements.Statement.{Statement}
@@ -12,11 +13,6 @@ use Rattle.grammar.specs.Keywords.{keyword_in}
 
 abbrev pub Words : Type 0
 Words = List (List ℕ)
-
--- what is read first, and then what follows, as `?` goes on
-infixl 10 ◌>>=◌
-abbrev pub ◌>>=◌ : {X Y : Type 0} → Option X → (X → Option Y) → Option Y
-o >>= f = option_and_then f o
 
 -- a number, and the words behind it
 abbrev pub number_and_rest : Words → Option (ℕ × Words)

@@ -8,7 +8,7 @@ use lexing::{before_comment, number, split_word};
 use streams::{Kind, Stream};
 
 // What a line says.
-#[derive(Clone, Copy)]
+#[derive(Clone, Copy, Debug, PartialEq, Eq)]
 pub enum Statement {
     Stream(Stream),
     Gap(u32),

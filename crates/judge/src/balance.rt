@@ -18,7 +18,7 @@ fn heat_at(stream: &[u32; 4], shift: u64, degree: u32) -> u64
 }
 
 impl Case<'_> {
-    // What hot streams give in a degree; 64 of less than 2^32 each fit. The judge reads a mark for itself: 1 is hot.
+    // What hot streams give in a degree; 64 of less than 2^32 each fit. The judge reads a mark for itself, since it shares no code with the planner: 1 is hot.
     fn given_at(&self, degree: u32) -> u64
         ensures { result ≡ sum_by (heat_in 0 degree) (filter (λ s. slice_index s 0 == 1) self.now.streams.now) }
     {
@@ -40,14 +40,14 @@ impl Case<'_> {
             .sum()
     }
 
-    // What the transfers from a degree come to; as many as a slice holds fit.
+    // What the transfers from a degree come to; as many as a slice holds fit. Two short chains, this and the next: with the place as a parameter, `from` and `to` would lose their names.
     fn sent_at(&self, degree: u32) -> u128
         ensures { result ≡ sum_by (λ t. slice_index t 2) (filter (λ t. slice_index t 0 == degree) self.now.plan.now) }
     {
         self.plan
             .iter()
             .filter(|[from, ..]| *from == degree)
-            .map(|[_, _, heat]| *heat as u128)
+            .map(|[_, _, heat]| u128::from(*heat))
             .sum()
     }
 
@@ -58,7 +58,7 @@ impl Case<'_> {
         self.plan
             .iter()
             .filter(|[_, to, _]| *to == degree)
-            .map(|[_, _, heat]| *heat as u128)
+            .map(|[_, _, heat]| u128::from(*heat))
             .sum()
     }
 

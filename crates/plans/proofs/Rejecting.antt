@@ -1,11 +1,11 @@
 -- What goes to the river, degree by degree from the top.
-use Rattle.std.proofs.Common.{◌≡◌, ℕ, suc, ◌+◌, ◌-◌, ◌*◌, ◌<◌, ◌≤◌, min, List, [], ◌∷◌, ◌++◌, length, get_or, take, sym, refl, ap, inl, inr, ◌∙◌, arith}
+use Rattle.std.proofs.Common.{◌≡◌, ℕ, ◌+◌, ◌-◌, ◌*◌, ◌<◌, ◌≤◌, min, List, [], ◌∷◌, ◌++◌, length, get_or, take, sym, refl, ap, inl, inr, arith}
 use Rattle.std.specs.List.{AllByRecursion}
 use Rattle.std.proofs.ByRecursion.{All-weaker}
 use Rattle.std.proofs.lemmas.Bool.{cases_lt, cases_eq, eq-eqb, ne_eqb}
-use Rattle.std.proofs.lemmas.List.{length-append, take-take, take_at, take_all}
-use Rattle.std.proofs.lemmas.Grind.{common_steps}
+use Rattle.std.proofs.lemmas.List.{length-append, take_all}
 use Rattle.streams.specs.Heat.{sum_from}
+use Rattle.streams.proofs.Backward.{Left, one_less}
 use Rattle.streams.proofs.Sums.{from_step, from_top, from_falls}
 use Rattle.plans.specs.declared.transfers.Transfer.{Transfer}
 use Rattle.plans.specs.declared.transfers.Writer.{Writer}
@@ -14,20 +14,6 @@ use Rattle.plans.specs.Pieces.{some, spare, Added, Rejected}
 use Rattle.plans.proofs.Totals.{sum_is, sum_few}
 use Rattle.plans.proofs.Room.{added_none, added_more}
 use Rattle.plans.proofs.Rows.{some_none, some_few, all_more, ordered_more, sent_more}
-
--- what is left of a list that is gone through from its end: one number less
-record Left (xs rest rest₁ : List ℕ) (x : ℕ) : Type 0 where
-  pub long : length rest ≡ suc (length rest₁)
-  pub last : x ≡ get_or xs (length rest₁) 0
-  pub front : rest₁ ≡ take (length rest₁) xs
-
-one_less : (xs rest rest₁ : List ℕ) (x : ℕ) → rest ≡ take (length rest) xs → rest ≡ rest₁ ++ x ∷ [] → Left xs rest rest₁ x
-one_less xs rest rest₁ x e p =
-    record {
-      long = grind (arith, common_steps);
-      last = grind (arith, common_steps);
-      front = let l : length rest₁ ≤ length rest = grind (arith, common_steps) in sym (ap (λ ys. take (length rest₁) ys) p ∙ take_at _ _ _ refl) ∙ ap (λ ys. take (length rest₁) ys) e ∙ take-take _ _ xs l;
-    }
 
 -- the numbers of a list, as a function of the degree
 abbrev at : List ℕ → ℕ → ℕ

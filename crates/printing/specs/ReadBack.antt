@@ -1,7 +1,8 @@
 -- How a printed transfer is read.
-use Rattle.std.specs.Prelude.{◌≡◌, ℕ, ◌^◌, ◌<◌, Bool, cond, List, [], ◌∷◌, ◌++◌, length, take, drop, Some, None, codes, Option, option_and_then, nat_lt, if◌then◌else◌}
+use Rattle.std.specs.Prelude.{◌≡◌, ℕ, ◌^◌, ◌<◌, Bool, cond, List, [], ◌∷◌, ◌++◌, length, take, drop, Some, None, codes, Option, MatchOption, true, false, nat_lt, if◌then◌else◌}
 use Rattle.std.specs.Str.{bytes_eq}
 use Rattle.lexing.specs.Lexing.{number_in}
+use Rattle.lexing.specs.Steps.{◌>>=◌}
 use Rattle.plans.specs.declared.transfers.Transfer.{Transfer}
 use Rattle.plans.specs.Transfers.{outside}
 use Rattle.printing.specs.Printed.{ended, transfer_line_bytes}
@@ -20,14 +21,15 @@ unfoldable pub cut : List ℕ → List ℕ → Option (List ℕ × List ℕ)
 cut text [] = None
 cut text (b ∷ bs) = cond (begins text (b ∷ bs)) (Some ([], drop (length text) (b ∷ bs))) (ahead (b ∷ []) (cut text bs))
 
+-- the first place of bs at which this text stands, or none
+abbrev pub FirstAt : List ℕ → List ℕ → Option ℕ → Type 0
+FirstAt text bs r =
+    MatchOption r ((k : ℕ) → k < length bs → begins text (drop k bs) ≡ false)
+    (λ i. (i < length bs) × (begins text (drop i bs) ≡ true) × ((k : ℕ) → k < i → begins text (drop k bs) ≡ false))
+
 -- a degree, or the boiler or the river by its name
 unfoldable pub place : List ℕ → List ℕ → Option ℕ
 place name bs = cond (bytes_eq bs name) (Some outside) (number_in bs)
-
--- what is read next, unless nothing could be read
-infixl 10 ◌>>=◌
-abbrev pub ◌>>=◌ : {X Y : Type 0} → Option X → (X → Option Y) → Option Y
-o >>= f = option_and_then f o
 
 -- the transfer that the parts of a line tell
 abbrev pub reads_parts : List ℕ → List ℕ → List ℕ → Option Transfer

@@ -14,7 +14,7 @@ use std::fmt;
 use targets::Targets;
 
 // The line that stands first: what is bought, what goes to the river, and the degree across which nothing may pass.
-#[derive(Clone, Copy)]
+#[derive(Clone, Copy, Debug, PartialEq, Eq)]
 pub struct TargetsLine(pub Targets);
 
 impl fmt::Display for TargetsLine {
@@ -33,7 +33,7 @@ impl fmt::Display for TargetsLine {
 }
 
 // The line of a transfer, with the boiler and the river by their names.
-#[derive(Clone, Copy)]
+#[derive(Clone, Copy, Debug, PartialEq, Eq)]
 pub struct TransferLine(pub Transfer);
 
 impl fmt::Display for TransferLine {

@@ -1,25 +1,20 @@
 // Reads a printed transfer back.
 ghost use Rattle.std.specs.Prelude.{◌≡◌, ℕ, ◌+◌, ◌<◌, ◌≤◌, true, false, length, drop, Some, None, MatchOption};
-ghost use Rattle.printing.specs.ReadBack.{begins, cut, place, reads_parts, reads_transfer};
+ghost use Rattle.printing.specs.ReadBack.{FirstAt, cut, place, reads_parts, reads_transfer};
 
 use lexing::number;
 use plans::{OUTSIDE, Transfer};
 
 // Where such a text first stands.
 fn find(bytes: &[u8], text: &[u8]) -> Option<usize>
-    requires { 0 < length text.now }
-    ensures nowhere { result ≡ None → (k : ℕ) → k + length text.now ≤ length bytes.now → begins text.now (drop k bytes.now) ≡ false }
-    ensures inside { (i : ℕ) → result ≡ Some i → i + length text.now ≤ length bytes.now }
-    ensures here { (i : ℕ) → result ≡ Some i → begins text.now (drop i bytes.now) ≡ true }
-    ensures not_before { (i : ℕ) → result ≡ Some i → (k : ℕ) → k < i → begins text.now (drop k bytes.now) ≡ false }
+    ensures { FirstAt text.now bytes.now result }
 {
-    bytes.windows(text.len()).position(|window| text == window)
+    (0..bytes.len()).find(|start| bytes[*start..].starts_with(text))
 }
 
 // What stands before the first such text, and what after it.
-#[tactic(auto, using(crate::proofs::Cuts::cut_nowhere))]
+#[tactic(auto, using(crate::proofs::Cuts::cut_nowhere, crate::proofs::Cuts::ends_inside))]
 fn split_once<'a>(bytes: &'a [u8], text: &[u8]) -> Option<(&'a [u8], &'a [u8])>
-    requires { 0 < length text.now }
     ensures { MatchOption result (cut text.now bytes.now ≡ None) (λ x. cut text.now bytes.now ≡ Some (x.0.now, x.1.now)) }
 {
     let start = find(bytes, text)?;

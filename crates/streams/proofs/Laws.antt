@@ -1,5 +1,5 @@
 -- Laws of what streams give and take: one stream more, bounds, whole streams, another order, a stream cut in two.
-use Rattle.std.proofs.Common.{◌≡◌, ℕ, zero, suc, ◌+◌, ◌-◌, ◌*◌, ◌≤◌, min, Bool, true, false, cond, ◌&&◌, List, [], ◌∷◌, ◌++◌, length, sum_by, sym, refl, ap, ◌∙◌, arith}
+use Rattle.std.proofs.Common.{◌≡◌, ℕ, zero, suc, ◌+◌, ◌-◌, ◌*◌, ◌≤◌, min, Bool, true, false, cond, ◌&&◌, List, [], ◌∷◌, ◌++◌, sum_by, sym, refl, ap, ◌∙◌, arith}
 use Rattle.std.specs.List.Sorted.{IsPermutation}
 use Rattle.std.specs.List.{AllByRecursion}
 use Rattle.std.proofs.lemmas.List.Sums.{sum_by-cons}
@@ -23,17 +23,6 @@ load_cons k shift s ss d = refl
 pub load_append : (k : Kind) (shift : ℕ) (ss ts : List Stream) (d : ℕ) → load k shift (ss ++ ts) d ≡ load k shift ss d + load k shift ts d
 load_append k shift [] ts d = omega (arith, load_none k shift d)
 load_append k shift (s ∷ ss) ts d = omega (arith, load_cons k shift s ss d, load_cons k shift s (ss ++ ts) d, load_append k shift ss ts d)
-
--- bounds
-pub heat_le : (k : Kind) (shift : ℕ) (s : Stream) (d : ℕ) → heat k shift s d ≤ s.rate
-unfolding heat
-heat_le k shift s d = grind arith
-
-pub load_le : (k : Kind) (shift most : ℕ) (ss : List Stream) (d : ℕ) → AllByRecursion (λ s. s.rate ≤ most) ss → load k shift ss d ≤ length ss * most
-load_le k shift most [] d a = omega (arith, load_none k shift d)
-load_le k shift most (s ∷ ss) d a =
-    let more : length (s ∷ ss) * most ≡ most + length ss * most = omega arith in
-    omega (arith, load_cons k shift s ss d, heat_le k shift s d, load_le k shift most ss d a.1, a.0)
 
 -- another order
 load_sum : (k : Kind) (shift : ℕ) (ss : List Stream) (d : ℕ) → load k shift ss d ≡ sum_by (λ s. heat k shift s d) ss

@@ -3,4 +3,4 @@ mod Loading
 mod Raising
 pub mod Sums
 pub mod Laws
-pub mod Taken
+pub mod Backward

@@ -1,16 +1,7 @@
 -- Laws of sums over degrees: below a degree, and from a degree up.
-use Rattle.std.proofs.Common.{◌≡◌, ℕ, zero, suc, ◌+◌, ◌-◌, ◌<◌, ◌≤◌, sym, refl, inl, inr, add-zero, add-suc, add-one, arith}
+use Rattle.std.proofs.Common.{◌≡◌, ℕ, zero, suc, ◌+◌, ◌-◌, ◌<◌, ◌≤◌, sym, refl, inl, inr, add-zero, add-suc, arith}
 use Rattle.std.proofs.lemmas.Bool.{cases_lt}
 use Rattle.streams.specs.Heat.{sum_below, sum_from}
-
-pub sum_none : (f : ℕ → ℕ) → sum_below 0 f ≡ 0
-unfolding sum_below
-sum_none f = refl
-
--- one degree more, as a loop counts
-pub sum_more : (n : ℕ) (f : ℕ → ℕ) → sum_below (n + 1) f ≡ sum_below n f + f n
-unfolding sum_below
-sum_more n f = rw add-one refl
 
 pub sum_ext : (n : ℕ) (f g : ℕ → ℕ) → ((i : ℕ) → i < n → f i ≡ g i) → sum_below n f ≡ sum_below n g
 unfolding sum_below

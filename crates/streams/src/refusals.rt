@@ -25,7 +25,7 @@ pub enum Refusal {
 }
 
 impl Refusal {
-    // The number by which callers know the rule.
+    // The number by which callers know the rule: it is printed, and callers in other languages get no more.
     pub fn number(self) -> u64
         ensures { result ≡ number_of self }
     {

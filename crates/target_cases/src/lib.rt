@@ -18,7 +18,7 @@ mod tests {
 
     const FOUR: [u32; 16] = [1, 60, 180, 3, 1, 30, 150, 1, 0, 20, 135, 2, 0, 80, 140, 4];
 
-    // What is bought, what goes to the river, and the pinch.
+    // What is bought, what goes to the river, and the pinch; as a tuple, so that a row of the tests stays a line.
     fn found(numbers: &[u32], gap: u64) -> Option<(u64, u64, Option<usize>)> {
         let table = check(numbers, gap).ok()?;
         let t = Targets::of_streams(&table);

@@ -1,27 +1,13 @@
 -- Loads gone through from the warmest degree, both sides together, and the way down that goes with them.
-use Rattle.std.proofs.Common.{◌≡◌, ℕ, suc, ◌+◌, ◌-◌, ◌<◌, ◌≤◌, max, List, [], ◌∷◌, ◌++◌, length, get_or, take, None, sym, refl, ap, ◌∙◌, inl, inr, arith}
+use Rattle.std.proofs.Common.{◌≡◌, ℕ, suc, ◌+◌, ◌-◌, ◌<◌, ◌≤◌, max, List, [], ◌∷◌, ◌++◌, length, take, None, sym, refl, ap, ◌∙◌, inl, inr, arith}
 use Rattle.std.proofs.lemmas.Bool.{cases_lt, le-leb, lt-leb}
-use Rattle.std.proofs.lemmas.List.{take_more, take_all, length-take, length_push, same_from_push}
+use Rattle.std.proofs.lemmas.List.{take_all}
 use Rattle.streams.specs.declared.loads.Loads.{Loads}
 use Rattle.streams.specs.Loaded.{supply_in, demand_in}
+use Rattle.streams.proofs.Backward.{Left, one_less}
 use Rattle.targets.specs.declared.cascade.Descent.{Descent}
 use Rattle.targets.specs.Cascade.{lowered}
 use Rattle.targets.proofs.Down.{Down, starts, goes_on, meets_more}
-
--- what is left of a list that is gone through from its end
-record Left (xs front front₁ : List ℕ) (x : ℕ) : Type 0 where
-  pub long : length front ≡ suc (length front₁)
-  pub last : x ≡ get_or xs (length front₁) 0
-  pub left : front₁ ≡ take (length front₁) xs
-
-left_more : (n : ℕ) (xs front front₁ : List ℕ) (x : ℕ) → front ≡ take n xs → n ≡ length front → front ≡ front₁ ++ x ∷ [] → Left xs front front₁ x
-left_more n xs front front₁ x e m p =
-    let within : n ≤ length xs = omega (arith, ap length e, length-take n xs) in
-    let long : length front ≡ length front₁ + 1 = ap length p ∙ length_push front₁ x in
-    let en : n ≡ length front₁ + 1 = omega arith in
-    let q : take (length front₁ + 1) xs ≡ take (length front₁) xs ++ get_or xs (length front₁) 0 ∷ [] = take_more xs (length front₁) 0 (omega arith) in
-    let both = same_from_push front₁ (take (length front₁) xs) x (get_or xs (length front₁) 0) (sym p ∙ e ∙ ap (λ k. take k xs) en ∙ q) in
-    record { long = omega arith; last = both.1; left = both.0 }
 
 -- loads gone through from the warmest degree: hs and cs are left of the two sides
 pub record Turn (loads : Loads) (hs cs : List ℕ) (s : Descent) : Type 0 where
@@ -47,10 +33,10 @@ module _ {loads : Loads} {hs cs : List ℕ} (hs₁ cs₁ : List ℕ) (x y : ℕ)
   degree = length hs₁
 
   give_left : Left loads.supply hs hs₁ x
-  give_left = left_more (length hs) loads.supply hs hs₁ x t.first refl eh
+  give_left = one_less loads.supply hs hs₁ x t.first eh
 
   take_left : Left loads.demand cs cs₁ y
-  take_left = left_more (length hs) loads.demand cs cs₁ y t.second (sym t.even) ec
+  take_left = one_less loads.demand cs cs₁ y (t.second ∙ ap (λ n. take n loads.demand) (sym t.even)) ec
 
   pub even_left : length cs₁ ≡ degree
   even_left = omega (arith, give_left.long, take_left.long, t.even)
@@ -84,8 +70,8 @@ module _ {loads : Loads} {hs cs : List ℕ} (hs₁ cs₁ : List ℕ) (x y : ℕ)
   turn_more d r same e =
       record {
         down = rw (e, same, give_left.last, taken) lower_down;
-        first = give_left.left;
-        second = rw even_left at take_left.left;
+        first = give_left.front;
+        second = rw even_left at take_left.front;
         within = omega (arith, inside);
         even = even_left;
       }

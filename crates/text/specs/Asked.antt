@@ -1,10 +1,11 @@
 -- What a text asks, line by line.
-use Rattle.std.specs.Prelude.{◌≡◌, ℕ, ◌+◌, Bool, true, false, List, [], ◌∷◌, ◌++◌, Some, None, Ok, Err, map, vec_items, unwrap_or, option_map, option_and_then, Option, Result, slice_index}
+use Rattle.std.specs.Prelude.{◌≡◌, ℕ, ◌+◌, Bool, true, false, List, [], ◌∷◌, ◌++◌, Some, None, Ok, Err, map, vec_items, unwrap_or, option_map, Option, Result, slice_index}
 use Rattle.std.specs.List.{flat_map}
 use Rattle.streams.specs.Numbers.{numbers_of}
 use Rattle.streams.specs.declared.refusals.Refusal.{Refusal}
 use Rattle.streams.specs.declared.refusals.Refusal.TheVariants as refusals
 use Rattle.lexing.specs.Lexing.{lines, words, uncommented}
+use Rattle.lexing.specs.Steps.{◌>>=◌}
 use Rattle.grammar.specs.declared.statements.Statement.{Statement}
 use Rattle.grammar.specs.declared.statements.Statement.TheVariants as statements
 use Rattle.grammar.specs.Statements.{statement}
@@ -45,7 +46,7 @@ go_on (Some a) i f = f a
 
 unfoldable pub asked_from : Asked → ℕ → List (List ℕ) → Result Asked ℕ
 asked_from a i [] = Ok a
-asked_from a i (l ∷ ls) = go_on (option_and_then (after i a) (statement (words (uncommented l)))) i (λ b. asked_from b (i + 1) ls)
+asked_from a i (l ∷ ls) = go_on (statement (words (uncommented l)) >>= after i a) i (λ b. asked_from b (i + 1) ls)
 
 -- nothing is asked at first
 abbrev pub nothing_asked : Asked

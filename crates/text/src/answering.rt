@@ -43,6 +43,7 @@ pub fn answer(heap: Global, text: &[u8]) -> Result<String, Turned<'_>>
 {
     let problem = read_problem(heap, text)?;
     let numbers = problem.numbers(heap)?;
+    // The planner allocates nothing: it is lent a room, and says how much of it the plan takes.
     let mut room = [0; 6000];
     match write_plan(&numbers, problem.gap(), &mut room) {
         Ok(written) => Ok(printed(heap, written, problem.plan, &room)?),

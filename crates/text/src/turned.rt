@@ -22,6 +22,7 @@ pub enum Turned<'a> {
     NoMemory,
 }
 
+// Two impls with one body, since memory is wanted by two types of error.
 impl From<AllocError> for Turned<'_> {
     ghost from_gives = { λ _ r. r ≡ NoMemory };
 

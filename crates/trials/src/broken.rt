@@ -4,7 +4,7 @@ use crate::random::Random;
 use std::alloc::{AllocError, Global};
 
 // What is broken.
-#[derive(Clone, Copy)]
+#[derive(Clone, Copy, Debug, PartialEq, Eq)]
 pub enum Rule {
     NotInFours,
     TooManyStreams,
@@ -75,7 +75,7 @@ impl Broken {
         Ok(())
     }
 
-    // Breaks the rule, at this stream if it is one of a stream.
+    // Breaks the rule, at this stream if it is one of a stream. A match, since each rule breaks another part: a closure for each would say no more.
     fn apply(&mut self, i: usize, s: Stream, gap: u32) -> Result<(), AllocError> {
         let [mark, low, high, rate] = <[u32; 4]>::from(s);
         match self.rule {
@@ -100,7 +100,7 @@ impl Broken {
         let i = random.next() as usize % list.streams.len().max(1);
         let mut broken = Broken {
             numbers,
-            gap: list.gap as u64,
+            gap: u64::from(list.gap),
             room: 6000,
             rule: Rule::pick(random),
         };

@@ -30,7 +30,10 @@ fn boiler_sum(plan: &[u32]) -> u64 {
         .0
         .iter()
         .filter(|[from, ..]| *from == BOILER)
-        .fold(0u64, |sum, [_, _, heat]| sum.saturating_add(*heat as u64))
+        .fold(
+            0u64,
+            |sum, [_, _, heat]| sum.saturating_add(u64::from(*heat)),
+        )
 }
 
 // Whether so much is lacking from some temperature up, so that no plan can do with less.

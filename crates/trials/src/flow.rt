@@ -67,7 +67,7 @@ fn heat_at(streams: &[Stream], kind: Kind, degree: u32) -> u64 {
     streams
         .iter()
         .filter(|s| s.kind == kind && s.low <= degree && degree < s.high)
-        .fold(0u64, |heat, s| heat.saturating_add(s.rate as u64))
+        .fold(0u64, |heat, s| heat.saturating_add(u64::from(s.rate)))
 }
 
 impl Net {
@@ -92,6 +92,7 @@ impl Net {
             left: [[0; NODES]; NODES],
         };
         let mut wanted: u64 = 0;
+        // By number, since a hot and a cold degree of one number stand in different rows.
         for i in 0..WIDTH {
             let hot_degree = hot_base.saturating_add(i as u32);
             let cold_heat = heat_at(streams, Kind::Cold, cold_base.saturating_add(i as u32));

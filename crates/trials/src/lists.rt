@@ -131,7 +131,7 @@ impl Stream {
     fn heat_from(self, shift: u32, temperature: u32) -> u64 {
         let high = self.high.saturating_add(shift);
         let low = self.low.saturating_add(shift).max(temperature);
-        high.saturating_sub(low) as u64 * self.rate as u64
+        u64::from(high.saturating_sub(low)) * u64::from(self.rate)
     }
 }
 

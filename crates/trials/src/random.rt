@@ -19,7 +19,7 @@ impl Random {
         ensures { (low ≤ result) × (result ≤ max low high) }
     {
         let more = high.saturating_sub(low);
-        let some = self.next() % (more as u64 + 1);
+        let some = self.next() % (u64::from(more) + 1);
         low + some as u32
     }
 }

@@ -1,9 +1,11 @@
-use Rattle.std.proofs.Common.{◌≡◌, get_or, refl, arith}
-use Rattle.std.proofs.lemmas.Grind.{common_steps}
+use Rattle.std.proofs.Common.{◌≡◌, ℕ, Bool, true, false, drop, rules, tests}
+use Rattle.std.proofs.lemmas.Iterator.{first_from_Range}
+use Rattle.std.proofs.lemmas.List.{take_rest}
+use Rattle.printing.specs.ReadBack.{begins}
+use Rattle.printing.proofs.Cuts.{found_first}
 use Rattle.printing.proofs.reader.find.Goals as goal
 
-pub returns-clause-nowhere : goal.returns-clause-nowhere
-returns-clause-nowhere c = λ e k h. let z : get_or c.args.bytes.now k 0 ≡ get_or c.args.bytes.now k 0 = refl in grind (arith, common_steps, z)
-
-pub returns-clause-not_before : goal.returns-clause-not_before
-returns-clause-not_before c = λ i e k h. let z : get_or c.args.bytes.now k 0 ≡ get_or c.args.bytes.now k 0 = refl in grind (arith, common_steps, z)
+pub returns : goal.returns
+returns c =
+    let stands : ℕ → Bool = λ i. begins c.args.text.now (drop i c.args.bytes.now) in
+    found_first c.args.text.now c.args.bytes.now _ (first_from_Range _ _ _ _ (λ i. stands i ≡ true) (λ i. stands i ≡ false) c.find.ensures.ran (λ x q k. search (rules, tests, take_rest)) (λ x q k. search (rules, tests, take_rest)))
