@@ -1,5 +1,5 @@
 -- What the words of a line say; a line that can't be read says None.
-use Rattle.std.specs.Prelude.{ℕ, List, [], ◌∷◌, Some, None, Option}
+use Rattle.std.specs.Prelude.{◌≡◌, ℕ, List, [], ◌∷◌, Some, None, Option, Result, MatchResult}
 use Rattle.streams.specs.declared.model.Kind.{Kind}
 use Rattle.streams.specs.declared.model.Kind.TheVariants.{Hot, Cold}
 use Rattle.streams.specs.declared.model.Stream.{Stream}
@@ -7,6 +7,7 @@ use Rattle.lexing.specs.Lexing.{number_in}
 use Rattle.lexing.specs.Steps.{◌>>=◌}
 use Rattle.grammar.specs.declared.keywords.Keyword.{Keyword}
 use Rattle.grammar.specs.declared.keywords.Keyword.TheVariants as keywords
+use Rattle.grammar.specs.declared.statements.LineFault.{LineFault}
 use Rattle.grammar.specs.declared.statements.Statement.{Statement}
 use Rattle.grammar.specs.declared.statements.Statement.TheVariants as statements
 use Rattle.grammar.specs.Keywords.{keyword_in}
@@ -65,3 +66,7 @@ statement (w ∷ ws) = do
   k ← keyword_in w
   s ← said k ws
   Some (Some s)
+
+-- what is read is what is said, and a fault is found where nothing is
+abbrev pub Reads : {X : Type 0} → Option X → Result X LineFault → Type 0
+Reads what r = MatchResult r (λ x. what ≡ Some x) (λ _. what ≡ None)

@@ -4,6 +4,9 @@ ghost use Rattle.grammar.specs.Shown.{printable, shown_byte, shown};
 
 use std::fmt;
 
+// So many bytes are shown.
+const MOST_SHOWN: usize = 40;
+
 // A letter, a digit, a sign or a space of ASCII.
 fn is_printable(b: u8) -> bool
     ensures { result ≡ printable b }
@@ -35,11 +38,11 @@ impl fmt::Display for Shown<'_> {
     ghost output = { λ s. Some (shown s.0.now) };
 
     fn fmt<W: fmt::Write>(&self, f: &mut fmt::Formatter<W>) -> fmt::Result {
-        let front = &self.0[..self.0.len().min(40)];
+        let front = &self.0[..self.0.len().min(MOST_SHOWN)];
         for b in front {
             write!(f, "{}", ShownByte(*b))?;
         }
-        if self.0.len() > 40 {
+        if self.0.len() > MOST_SHOWN {
             f.write_str("...")?;
         }
         Ok(())

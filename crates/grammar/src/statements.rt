@@ -1,7 +1,7 @@
 // Statements: a stream, the gap, or a wish for the plan.
 ghost use Rattle.std.specs.Prelude.{◌≡◌, Some, None, MatchResult};
 ghost use Rattle.lexing.specs.Lexing.{words, uncommented};
-ghost use Rattle.grammar.specs.Statements.{number_and_rest, done, stream_said, said, statement};
+ghost use Rattle.grammar.specs.Statements.{number_and_rest, done, stream_said, said, statement, Reads};
 
 use crate::keywords::{Keyword, find_keyword};
 use lexing::{before_comment, number, split_word};
@@ -48,7 +48,7 @@ fn finish(text: &[u8]) -> Result<(), LineFault<'_>>
 // A stream is written from and to in the way it goes: a hot one from its higher temperature, a cold one from its lower.
 #[tactic(auto, unfolding(crate::specs::Statements::stream_said))]
 fn read_stream(kind: Kind, text: &[u8]) -> Result<Stream, LineFault<'_>>
-    ensures { MatchResult result (λ s. stream_said kind (words text.now) ≡ Some s) (λ _. stream_said kind (words text.now) ≡ None) }
+    ensures { Reads (stream_said kind (words text.now)) result }
 {
     let (from, text) = next_number(text)?;
     let (to, text) = next_number(text)?;
@@ -69,7 +69,7 @@ fn read_stream(kind: Kind, text: &[u8]) -> Result<Stream, LineFault<'_>>
 // What the words behind a keyword say.
 #[tactic(auto, unfolding(crate::specs::Statements::gap_said, crate::specs::Statements::said))]
 fn read_statement(keyword: Keyword, text: &[u8]) -> Result<Statement, LineFault<'_>>
-    ensures { MatchResult result (λ s. said keyword (words text.now) ≡ Some s) (λ _. said keyword (words text.now) ≡ None) }
+    ensures { Reads (said keyword (words text.now)) result }
 {
     match keyword {
         Keyword::Stream(kind) => Ok(Statement::Stream(read_stream(kind, text)?)),
@@ -88,13 +88,11 @@ fn read_statement(keyword: Keyword, text: &[u8]) -> Result<Statement, LineFault<
 // What a line says, if it is no blank or comment.
 #[tactic(auto, unfolding(crate::specs::Statements::statement))]
 pub fn read_line(line: &[u8]) -> Result<Option<Statement>, LineFault<'_>>
-    ensures { MatchResult result (λ s. statement (words (uncommented line.now)) ≡ Some s) (λ _. statement (words (uncommented line.now)) ≡ None) }
+    ensures { Reads (statement (words (uncommented line.now))) result }
 {
     let Some((word, rest)) = split_word(before_comment(line)) else {
         return Ok(None);
     };
-    let Some(keyword) = find_keyword(word) else {
-        return Err(LineFault::UnknownWord(word));
-    };
+    let keyword = find_keyword(word).ok_or(LineFault::UnknownWord(word))?;
     Ok(Some(read_statement(keyword, rest)?))
 }

@@ -18,7 +18,8 @@ fn heat_at(stream: &[u32; 4], shift: u64, degree: u32) -> u64
 }
 
 impl Case<'_> {
-    // What hot streams give in a degree; 64 of less than 2^32 each fit. The judge reads a mark for itself, since it shares no code with the planner: 1 is hot.
+    // What hot streams give in a degree; 64 of less than 2^32 each fit. The judge reads a mark for itself, since it calls no code of the planner: 1 is hot.
+    // Hot and cold differ in the marks that count and in the shift, so each is a chain.
     fn given_at(&self, degree: u32) -> u64
         ensures { result ≡ sum_by (heat_in 0 degree) (filter (λ s. slice_index s 0 == 1) self.now.streams.now) }
     {
@@ -40,7 +41,8 @@ impl Case<'_> {
             .sum()
     }
 
-    // What the transfers from a degree come to; as many as a slice holds fit. Two short chains, this and the next: with the place as a parameter, `from` and `to` would lose their names.
+    // What the transfers from a degree come to; as many as a slice holds fit. Two short chains, this and the
+    // next: with the test as a parameter, the contract would have to say what a closure computes.
     fn sent_at(&self, degree: u32) -> u128
         ensures { result ≡ sum_by (λ t. slice_index t 2) (filter (λ t. slice_index t 0 == degree) self.now.plan.now) }
     {
@@ -74,7 +76,7 @@ impl Case<'_> {
     pub(crate) fn check_balance(&self) -> Result<(), Flaw>
         ensures { BalanceJudged (streams_of self.now.streams.now) self.now.gap (transfers_of self.now.plan.now) result }
     {
-        // A `for`, since of a test that decides a fact `find` gives the proof too little to go on.
+        // A `for`: with `find` over a range from above the proof did not close.
         for degree in (0..DEGREES).rev() {
             if !self.balances(degree) {
                 return Err(Flaw::Unbalanced(degree as usize));

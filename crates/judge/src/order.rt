@@ -13,7 +13,7 @@ pub(crate) const DEGREES: u32 = 1000;
 // The mark of the boiler, as what gives, and of the river, as what takes; the judge's own too.
 const OUTSIDE: u32 = 65535;
 
-// Three numbers are a transfer: from, to, how much.
+// Three numbers are a transfer: from, to, how much. The judge reads them for itself, too.
 pub(crate) fn transfer_of(three: &[u32; 3]) -> Transfer
     ensures { result ≡ transfer_in (slice_index three.now 0) (slice_index three.now 1) (slice_index three.now 2) }
 {

@@ -80,7 +80,7 @@ no_words text e =
     words_skip text ∙ ap words (drop_of_length-le text l)
 
 -- a text that begins with a word is that word and the words behind it
-some_long : (bs : List ℕ) → 0 < length bs → some_bytes bs ≡ true
+pub some_long : (bs : List ℕ) → 0 < length bs → some_bytes bs ≡ true
 some_long [] l = absurd (omega arith)
 some_long (b ∷ bs) l = refl
 

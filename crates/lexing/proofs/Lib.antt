@@ -1,3 +1,3 @@
-mod Cutting
+pub mod Cutting
 mod Folding
 mod Reading

@@ -13,6 +13,7 @@ fn is_blank(b: u8) -> bool
 }
 
 // The first line, and the text behind its newline, if it has one.
+#[tactic(auto, using(crate::proofs::Cutting::last_line))]
 pub fn split_line(text: &[u8]) -> (&[u8], Option<&[u8]>)
     ensures { LineAndRest text.now result.0.now result.1 }
 {
@@ -22,7 +23,7 @@ pub fn split_line(text: &[u8]) -> (&[u8], Option<&[u8]>)
     }
 }
 
-// The lines of a text, one after the other.
+// The lines of a text, one after the other. An iterator of its own, since that of `split` by a closure has no name by which it could be answered.
 #[derive(Drop)]
 pub struct Lines<'a> {
     rest: Option<&'a [u8]>,
@@ -52,6 +53,7 @@ pub fn lines_of(text: &[u8]) -> Lines<'_>
 }
 
 // The line up to a '#', which begins a comment.
+#[tactic(auto, using(crate::proofs::Cutting::no_comment))]
 pub fn before_comment(line: &[u8]) -> &[u8]
     ensures { result.now ≡ uncommented line.now }
 {
@@ -62,6 +64,7 @@ pub fn before_comment(line: &[u8]) -> &[u8]
 }
 
 // The line without the blanks at its end.
+#[tactic(auto, using(crate::proofs::Cutting::all_blank))]
 pub fn trim_end(line: &[u8]) -> &[u8]
     ensures { result.now ≡ trimmed line.now }
 {
@@ -71,7 +74,7 @@ pub fn trim_end(line: &[u8]) -> &[u8]
     }
 }
 
-// The place of the first byte that is no blank.
+// The place of the first byte that is no blank. A function of its own, as the next one is: behind a `?` or a `match` the proof loses which place it is.
 fn find_word(text: &[u8]) -> Option<usize>
     ensures { result ≡ position (λ b. not (blank b)) text.now }
 {
@@ -104,7 +107,7 @@ fn with_digit(value: u32, b: u8) -> Option<u32>
     value.checked_mul(10)?.checked_add(digit)
 }
 
-// The number that a word of digits writes, if it is below 2^32.
+// The number that a word of digits writes, if it is below 2^32. `parse` would take a sign too.
 pub fn number(word: &[u8]) -> Option<u32>
     ensures { result ≡ number_in word.now }
 {

@@ -54,11 +54,12 @@ mod tests {
             plan(&[1, 0, 1000, 1_000_000, 0, 0, 1000, 999_999], 0, &mut room),
             Done::Planned(2000, 0)
         );
-        assert_eq!(rt; (room[0], room[1], room[2]), (0, 65535, 1000));
-        assert_eq!(rt; (room[3], room[4], room[5]), (999, 999, 999_999));
-        assert_eq!(rt; (room[6], room[7], room[8]), (999, 998, 1));
-        assert_eq!(rt; (room[5994], room[5995], room[5996]), (1, 0, 999));
-        assert_eq!(rt; (room[5997], room[5998], room[5999]), (0, 0, 999_000));
+        let (threes, _) = room.as_chunks::<3>();
+        assert_eq!(rt; threes[0], [0, 65535, 1000]);
+        assert_eq!(rt; threes[1], [999, 999, 999_999]);
+        assert_eq!(rt; threes[2], [999, 998, 1]);
+        assert_eq!(rt; threes[1998], [1, 0, 999]);
+        assert_eq!(rt; threes[1999], [0, 0, 999_000]);
     }
 
     #[test]
@@ -84,13 +85,13 @@ mod tests {
     fn planned(streams: &[u32], gap: u64) -> Result<(), Flaw> {
         let mut room = [UNTOUCHED; 6000];
         let transfers = match plan(streams, gap, &mut room) {
-            Done::Planned(transfers, _) => transfers,
-            Done::Refused(_) => 0,
+            Done::Planned(transfers, _) => transfers as usize,
+            Done::Refused(_) => return Err(Flaw::Unfit),
         };
-        judge(streams, gap, &room, transfers as usize)
+        judge(streams, gap, &room, transfers)
     }
 
-    // The four streams of target_cases, beside which these cases stand.
+    // As in target_cases; a crate of cases stands on no other.
     const FOUR: [u32; 16] = [1, 60, 180, 3, 1, 30, 150, 1, 0, 20, 135, 2, 0, 80, 140, 4];
 
     // The streams of examples/brewery.txt.
@@ -118,8 +119,8 @@ mod tests {
         let streams = [1, 50, 60, 2, 0, 45, 55, 2];
         let mut room = [UNTOUCHED; 6000];
         let _ = plan(&streams, 10, &mut room);
-        if let Some(changed) = room.get_mut(place) {
-            *changed = number;
+        if let Some(there) = room.get_mut(place) {
+            *there = number;
         }
         judge(&streams, 10, &room, 15)
     }

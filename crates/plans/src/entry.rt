@@ -13,7 +13,7 @@ pub struct Written {
     pub targets: Targets,
 }
 
-// What is answered: how many transfers and what is bought, or the refusal's number. Two bare numbers, since callers in other languages get them so.
+// What is answered: how many transfers and what is bought, or the refusal's number. Bare numbers, since the entry is fixed for its callers, and an answer of it is made into one for other languages.
 #[derive(Clone, Copy, Debug, PartialEq, Eq)]
 pub enum Done {
     Planned(u64, u64),

@@ -3,7 +3,7 @@
 // All heat is laid along one line. On one side stands what gives it: the boiler, then the degrees from the warmest down. On the other side stands
 // what takes it: the degrees from the warmest down. Where the two sides touch, that much passes. What is given beyond the end of what is taken goes
 // to the river.
-ghost use Rattle.std.specs.Prelude.{◌≡◌, ℕ, ◌+◌, ◌*◌, ◌≤◌, length};
+ghost use Rattle.std.specs.Prelude.{◌≡◌, ◌+◌, ◌*◌, ◌≤◌, length};
 ghost use Rattle.streams.specs.Heat.{sum_from};
 ghost use Rattle.streams.specs.Loaded.{supply_in, demand_in};
 ghost use Rattle.targets.specs.Deficits.{target};
@@ -13,7 +13,8 @@ ghost use Rattle.plans.specs.Promise.{LaidOut};
 use crate::transfers::{OUTSIDE, Transfer, Writer, mark_of};
 use streams::{DEGREES, Loads};
 
-// What each degree gives and takes, with the heat that has to be bought for it at least.
+// What each degree gives and takes, with the heat that has to be bought for it at least. The clauses name the three one by one, since the definitions
+// speak of functions of the degree, and so do the theorems.
 #[derive(Clone, Copy)]
 pub(crate) struct Planner<'a> {
     pub(crate) loads: &'a Loads,
@@ -54,7 +55,7 @@ impl Planner<'_> {
         ensures { Served (supply_in self.now.loads.now) (demand_in self.now.loads.now) self.now.heating writer.old writer.new }
     {
         // Two sides are merged, each with a place of its own that goes down. The places are numbers, since transfers name them; two iterators would
-        // bring two ends that never come.
+        // bring two ends that never come, and a loop within a loop would part what is one turn: a transfer, which ends the heat of one side.
         let mut from = DEGREES;
         let mut hot = self.heating;
         let mut to = DEGREES - 1;

@@ -27,7 +27,7 @@ fn put(free: &mut [u32], t: Transfer)
     free[2] = t.heat;
 }
 
-// Writes transfers one behind the other, from the front of a room.
+// Writes transfers one behind the other, from the front of a room: the caller lends it, and nothing is allocated, so the count stands beside it.
 #[derive(Drop)]
 pub(crate) struct Writer<'a> {
     room: &'a mut [u32],
@@ -58,7 +58,8 @@ impl<'a> Writer<'a> {
     }
 }
 
-// The mark of a place that gives: a degree, or the boiler, which stands above them all.
+// The mark of a place that gives: a degree, or the boiler, which stands above them all. On the way down it is 1,000, from which the next step is the
+// warmest degree.
 #[tactic(auto, unfolding(crate::specs::Transfers::mark))]
 pub(crate) fn mark_of(from: usize) -> u32
     requires { from ≤ 1000 }

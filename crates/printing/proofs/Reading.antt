@@ -7,7 +7,8 @@ use Rattle.std.proofs.lemmas.Str.Parse.{IsNumeralModel, numerals_by_fold, digit_
 use Rattle.std.proofs.lemmas.Bool.{lt-ltb, ne_eqb, and_from, cond-true, cond-false, cases_eq, eq-eqb, eqb-false, and_left}
 use Rattle.std.specs.Str.Parse.{AllDigits}
 use Rattle.std.specs.Str.{bytes_eq}
-use Rattle.lexing.specs.Lexing.{digits, value_after, some_bytes, number_in}
+use Rattle.lexing.proofs.Cutting.{some_long}
+use Rattle.lexing.specs.Lexing.{digits, value_after, number_in}
 use Rattle.plans.specs.Transfers.{outside}
 use Rattle.printing.specs.Printed.{ended, laid_out}
 use Rattle.printing.specs.ReadBack.{ahead, cut, place, reads_transfer, ReadsBack}
@@ -26,10 +27,6 @@ cut_at c text [] ys h =
 cut_at c text (x ∷ xs) ys h =
     let e : eqb c x ≡ false = ne_eqb c x (λ e. eqb-false x c h.0 (sym e)) in
     cond-false _ _ _ (and_left (eqb c x) _ e) ∙ ap (ahead (x ∷ [])) (cut_at c text xs ys h.1)
-
-some_of : (bs : List ℕ) → 0 < length bs → some_bytes bs ≡ true
-some_of [] l = absurd (omega arith)
-some_of (b ∷ bs) l = refl
 
 -- digits have no blank, no comma and no newline, and are no name
 digits_clear : (c : ℕ) (ds : List ℕ) → c < 48 → AllDigits 10 ds → Clear c ds
@@ -54,7 +51,7 @@ number_decimal n l =
     let small : n < 2 ^ 64 = omega arith in
     let v : value_after 0 (decimal n) ≡ n = digits_value-decimal own n small in
     cond-true _ (Some (value_after 0 (decimal n))) None
-    (and_from _ _ (some_of (decimal n) (decimal_nonempty n small)) (and_from _ _ (digits_decimal own n small) (lt-ltb (value_after 0 (decimal n)) 4294967296 (omega arith))))
+    (and_from _ _ (some_long (decimal n) (decimal_nonempty n small)) (and_from _ _ (digits_decimal own n small) (lt-ltb (value_after 0 (decimal n)) 4294967296 (omega arith))))
     ∙ ap (λ m. Some m) v
 
 -- a part of a line that is read as n

@@ -1,11 +1,11 @@
 // Reads a printed transfer back.
-ghost use Rattle.std.specs.Prelude.{◌≡◌, ℕ, ◌+◌, ◌<◌, ◌≤◌, true, false, length, drop, Some, None, MatchOption};
+ghost use Rattle.std.specs.Prelude.{◌≡◌, Some, None, MatchOption};
 ghost use Rattle.printing.specs.ReadBack.{FirstAt, cut, place, reads_parts, reads_transfer};
 
 use lexing::number;
 use plans::{OUTSIDE, Transfer};
 
-// Where such a text first stands.
+// Where a text first stands in a line, which is bytes and no `str`, so that it may be any.
 fn find(bytes: &[u8], text: &[u8]) -> Option<usize>
     ensures { FirstAt text.now bytes.now result }
 {

@@ -7,7 +7,7 @@ mod tests {
     use std::test::Fail;
     use streams::{check, check_with_room};
 
-    // The number and the place of the refusal, if there is one.
+    // The number and the place of the refusal, if there is one: these are what callers get and what is printed.
     fn refused(numbers: &[u32], gap: u64, room: &[u32]) -> Option<(u64, usize)> {
         let refusal = check_with_room(numbers, gap, room).err()?;
         Some((refusal.number(), refusal.place()))
@@ -65,10 +65,7 @@ mod tests {
 
     // So many sound streams, and numbers that are no whole stream behind them.
     fn many(heap: Global, count: usize, more: &[u32]) -> Result<Option<(u64, usize)>, AllocError> {
-        let mut numbers = Vec::new(heap);
-        for _ in 0..count {
-            numbers.extend_from_slice(&[1, 0, 1, 1])?;
-        }
+        let mut numbers = [1, 0, 1, 1].repeat(heap, count)?;
         numbers.extend_from_slice(more)?;
         Ok(refused(numbers.as_slice(), 0, &[0; 6000]))
     }

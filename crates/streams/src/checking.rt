@@ -11,7 +11,8 @@ const MOST_TEMPERATURE: u32 = 1000;
 
 const MOST_RATE: u32 = 1_000_000;
 
-const LEAST_ROOM: usize = 6000;
+// Two transfers for each degree, three numbers each.
+pub const LEAST_ROOM: usize = 6000;
 
 // What stands in a table behind its streams.
 const BLANK: Stream = Stream {

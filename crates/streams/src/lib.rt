@@ -8,8 +8,8 @@ mod refusals;
 mod summing;
 mod table;
 
-pub use checking::{check, check_with_room};
+pub use checking::{LEAST_ROOM, check, check_with_room};
 pub use loads::Loads;
-pub use model::{DEGREES, Kind, Stream, UnknownMark};
+pub use model::{DEGREES, Kind, MOST_STREAMS, Stream, UnknownMark};
 pub use refusals::Refusal;
 pub use table::StreamTable;

@@ -6,7 +6,7 @@ ghost use Rattle.streams.specs.Numbers.{mark_of, Marks, numbers_of};
 pub const DEGREES: usize = 1000;
 
 // There are at most 64 streams.
-pub(crate) const MOST_STREAMS: usize = 64;
+pub const MOST_STREAMS: usize = 64;
 
 // A hot stream is cooled and gives heat; a cold one is warmed and takes it.
 #[derive(Clone, Copy, Debug, PartialEq, Eq)]

@@ -41,7 +41,7 @@ impl Refusal {
         }
     }
 
-    // Where: how many numbers there are, which stream, or which line.
+    // Where: how many numbers there are, which stream, or which line; 0 for the gap, which has no place and is printed so.
     pub fn place(self) -> usize
         ensures { result ≡ place_of self }
     {

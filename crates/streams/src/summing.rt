@@ -1,5 +1,5 @@
 // Supply and demand, summed over the streams of a table.
-ghost use Rattle.std.specs.Prelude.{◌≡◌, ℕ, ◌+◌, ◌^◌, ◌<◌, ◌≤◌, if◌then◌else◌, slice_index};
+ghost use Rattle.std.specs.Prelude.{◌≡◌, ℕ, ◌+◌, ◌^◌, ◌<◌, if◌then◌else◌, slice_index};
 ghost use Rattle.streams.specs.Heat.{within};
 ghost use Rattle.streams.specs.Rules.{Sound};
 ghost use Rattle.streams.specs.Checked.{listed};

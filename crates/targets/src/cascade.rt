@@ -3,7 +3,7 @@ ghost use Rattle.std.specs.Prelude.{◌≡◌, ◌+◌, ◌^◌, ◌<◌};
 ghost use Rattle.targets.specs.Cascade.{lowered};
 
 // What hot streams give and cold ones take from a degree up, the most that is lacking from any degree that was passed, and the lowest where it is.
-#[derive(Clone, Copy)]
+#[derive(Clone, Copy, Default)]
 pub(crate) struct Descent {
     pub(crate) supply: u64,
     pub(crate) demand: u64,

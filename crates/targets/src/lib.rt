@@ -23,12 +23,7 @@ impl Targets {
     pub fn of(loads: &Loads) -> Targets
         ensures { Found (supply_in loads.now) (demand_in loads.now) result }
     {
-        let mut so_far = Descent {
-            supply: 0,
-            demand: 0,
-            most: 0,
-            pinch: None,
-        };
+        let mut so_far = Descent::default();
         let degrees = loads.supply.iter().zip(&loads.demand).enumerate();
         for (degree, (give, take)) in degrees.rev() {
             so_far = so_far.lower(degree, *give, *take);

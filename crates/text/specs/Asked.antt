@@ -71,9 +71,9 @@ line_of a (refusals.Unreadable i) = slice_index a.stream_lines i
 -- what the code has read
 abbrev pub asked_by : Problem → Asked
 asked_by p = record {
-  numbers = flat_map (λ line. numbers_of line.stream) (vec_items p.streams);
+  numbers = flat_map (λ line. numbers_of line.what) (vec_items p.streams);
   stream_lines = map (λ line. line.place) (vec_items p.streams);
-  gap = option_map (λ line. line.gap) p.gap;
+  gap = option_map (λ line. line.what) p.gap;
   gap_line = unwrap_or (option_map (λ line. line.place) p.gap) 0;
   plan = p.plan;
 }

@@ -9,6 +9,7 @@ use lexing::{before_comment, lines_of, trim_end};
 use plans::{Written, write_plan};
 use printing::{TargetsLine, push_transfers};
 use std::alloc::{AllocError, Global};
+use streams::LEAST_ROOM;
 
 // The line at a place, or nothing where there is none.
 fn line_at(text: &[u8], place: usize) -> &[u8]
@@ -44,7 +45,7 @@ pub fn answer(heap: Global, text: &[u8]) -> Result<String, Turned<'_>>
     let problem = read_problem(heap, text)?;
     let numbers = problem.numbers(heap)?;
     // The planner allocates nothing: it is lent a room, and says how much of it the plan takes.
-    let mut room = [0; 6000];
+    let mut room = [0; LEAST_ROOM];
     match write_plan(&numbers, problem.gap(), &mut room) {
         Ok(written) => Ok(printed(heap, written, problem.plan, &room)?),
         Err(refusal) => {

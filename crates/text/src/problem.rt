@@ -5,27 +5,20 @@ ghost use Rattle.text.specs.Asked.{asked_by, nothing_asked, line_of, Noted};
 use crate::turned::Turned;
 use grammar::{LineFault, Statement};
 use std::alloc::{AllocError, Global};
-use streams::{Refusal, Stream};
+use streams::{MOST_STREAMS, Refusal, Stream};
 
-// A stream, with the place of its line.
+// What a line says, with the place of the line.
 #[derive(Clone, Copy)]
-pub(crate) struct StreamLine {
-    pub(crate) stream: Stream,
-    pub(crate) place: usize,
-}
-
-// The gap, with the place of the line that gives it.
-#[derive(Clone, Copy)]
-pub(crate) struct GapLine {
-    pub(crate) gap: u32,
+pub(crate) struct Said<T> {
+    pub(crate) what: T,
     pub(crate) place: usize,
 }
 
 // The streams in the order of their lines; the gap, if a line gave it; and whether the plan is wished for.
 #[derive(Drop)]
 pub(crate) struct Problem {
-    pub(crate) streams: Vec<StreamLine>,
-    pub(crate) gap: Option<GapLine>,
+    pub(crate) streams: Vec<Said<Stream>>,
+    pub(crate) gap: Option<Said<u32>>,
     pub(crate) plan: bool,
 }
 
@@ -52,7 +45,10 @@ impl Problem {
         match said {
             None => {}
             Some(Statement::Stream(stream)) => {
-                self.streams.push(StreamLine { stream, place })?;
+                self.streams.push(Said {
+                    what: stream,
+                    place,
+                })?;
             }
             Some(Statement::Gap(gap)) => {
                 if self.gap.is_some() {
@@ -61,7 +57,7 @@ impl Problem {
                         fault: LineFault::SecondGap,
                     });
                 }
-                self.gap = Some(GapLine { gap, place });
+                self.gap = Some(Said { what: gap, place });
             }
             Some(Statement::Plan) => {
                 if self.plan {
@@ -81,8 +77,9 @@ impl Problem {
         ensures { IfOk result (λ v. v.items ≡ (asked_by self.now).numbers) }
     {
         let mut numbers = Vec::new(heap);
+        // A `for`: of a chain whose closure answers arrays a proof does not know the whole list.
         for line in &self.streams {
-            numbers.extend_from_slice(&<[u32; 4]>::from(line.stream))?;
+            numbers.extend_from_slice(&<[u32; 4]>::from(line.what))?;
         }
         Ok(numbers)
     }
@@ -91,16 +88,16 @@ impl Problem {
     pub(crate) fn gap(&self) -> u64
         ensures { result ≡ unwrap_or (asked_by self.now).gap 0 }
     {
-        self.gap.map_or(0, |line| u64::from(line.gap))
+        self.gap.map_or(0, |line| u64::from(line.what))
     }
 
-    // The place of the line that a refusal speaks of.
+    // The place of the line that a refusal speaks of. Three of them never come of a text: it gives whole fours, room enough and lines that were read.
     pub(crate) fn place_of(&self, refusal: Refusal) -> usize
         ensures { result ≡ line_of (asked_by self.now) refusal }
     {
         match refusal {
             Refusal::GapTooWide => self.gap.map_or(0, |line| line.place),
-            Refusal::TooManyStreams(_) => self.place_of_stream(64),
+            Refusal::TooManyStreams(_) => self.place_of_stream(MOST_STREAMS),
             Refusal::NotInFours(i)
             | Refusal::UnknownKind(i)
             | Refusal::LowNotBelowHigh(i)

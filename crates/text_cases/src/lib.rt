@@ -17,7 +17,7 @@ mod tests {
         }
     }
 
-    // Each text of the table, behind these first lines, is answered by what stands beside it.
+    // Each text of the table, behind these first lines, is answered by what stands beside it. A test may stop where one is not.
     fn expect_each(
         rt: &impl Abort,
         heap: Global,
@@ -257,10 +257,7 @@ mod tests {
 
     #[test]
     fn one_stream_too_many(rt: HostRuntime) -> Result<(), Fail> {
-        let mut text = String::new(rt.alloc());
-        for _ in 0..64 {
-            text.push_str("hot 2 1 5\n")?;
-        }
+        let mut text = "hot 2 1 5\n".repeat(rt.alloc(), 64)?;
         assert_eq!(rt;
             said(rt.alloc(), text.as_bytes())?.as_str(),
             "boiler 0, river 320, nothing is lacking\n"

@@ -1,4 +1,5 @@
 // Sound lists that are made to break one rule.
+use crate::LEAST_ROOM;
 use crate::lists::{List, Stream};
 use crate::random::Random;
 use std::alloc::{AllocError, Global};
@@ -40,7 +41,7 @@ pub struct Broken {
 
 impl Rule {
     fn pick(random: &mut Random) -> Rule {
-        RULES[random.next() as usize % 9]
+        RULES[random.next() as usize % RULES.len()]
     }
 
     // The number by which the planner is to turn away what breaks it.
@@ -67,14 +68,6 @@ impl Broken {
         }
     }
 
-    // More streams than are taken, all of them sound.
-    fn add_streams(&mut self) -> Result<(), AllocError> {
-        for _ in 0..64 {
-            self.numbers.extend_from_slice(&[1, 0, 1, 1])?;
-        }
-        Ok(())
-    }
-
     // Breaks the rule, at this stream if it is one of a stream. A match, since each rule breaks another part: a closure for each would say no more.
     fn apply(&mut self, i: usize, s: Stream, gap: u32) -> Result<(), AllocError> {
         let [mark, low, high, rate] = <[u32; 4]>::from(s);
@@ -82,14 +75,18 @@ impl Broken {
             Rule::NotInFours => {
                 let _ = self.numbers.pop();
             }
-            Rule::TooManyStreams => self.add_streams()?,
+            // more than are taken, all of them sound
+            Rule::TooManyStreams => {
+                self.numbers
+                    .extend_from_slice([[1, 0, 1, 1]; 64].as_flattened())?;
+            }
             Rule::GapTooWide => self.gap = 1001,
             Rule::UnknownKind => self.set(i, [2, low, high, rate]),
             Rule::NoWidth => self.set(i, [mark, low, low, rate]),
             Rule::TooWarm => self.set(i, [mark, low, 1001u32.saturating_sub(gap), rate]),
             Rule::NoHeat => self.set(i, [mark, low, high, 0]),
             Rule::TooMuchHeat => self.set(i, [mark, low, high, 1_000_001]),
-            Rule::RoomTooSmall => self.room = 5999,
+            Rule::RoomTooSmall => self.room = LEAST_ROOM - 1,
         }
         Ok(())
     }
@@ -101,7 +98,7 @@ impl Broken {
         let mut broken = Broken {
             numbers,
             gap: u64::from(list.gap),
-            room: 6000,
+            room: LEAST_ROOM,
             rule: Rule::pick(random),
         };
         if let Some(s) = list.streams.get(i) {

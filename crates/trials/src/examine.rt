@@ -1,6 +1,6 @@
 // A planner's answer and room, beside what the numbers of the streams say by themselves.
 use crate::flow::least_bought;
-use crate::lists::{Kind, List};
+use crate::lists::{Kind, List, TOP};
 use crate::trouble::Trouble;
 use judge::judge;
 use plans::Done;
@@ -8,9 +8,6 @@ use std::alloc::Global;
 
 // The mark of the boiler, as what gives.
 const BOILER: u32 = 65535;
-
-// The temperature above which nothing is counted.
-const TOP: u32 = 1000;
 
 // What is found where all is as it should be: whether a largest flow says the same, where the streams are narrow enough for one, and whether some heat passes and some is bought.
 #[derive(Clone, Copy)]
@@ -30,6 +27,7 @@ fn boiler_sum(plan: &[u32]) -> u64 {
         .0
         .iter()
         .filter(|[from, ..]| *from == BOILER)
+        // no `sum`, which asks for a bound
         .fold(
             0u64,
             |sum, [_, _, heat]| sum.saturating_add(u64::from(*heat)),

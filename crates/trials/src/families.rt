@@ -1,5 +1,5 @@
 // Families of lists.
-use crate::lists::{Kinds, Place, Shape, Span};
+use crate::lists::{Kind, Place, Shape, Span};
 
 const NARROW: Shape = Shape {
     streams: Span(1, 6),
@@ -7,7 +7,7 @@ const NARROW: Shape = Shape {
     rate: Span(1, 9),
     width: 40,
     grain: 1,
-    kinds: Kinds::Both,
+    only: None,
     place: Place::Anywhere,
 };
 
@@ -61,14 +61,14 @@ pub static FAMILIES: [(&str, Shape); 12] = [
     (
         "all hot",
         Shape {
-            kinds: Kinds::HotOnly,
+            only: Some(Kind::Hot),
             ..NARROW
         },
     ),
     (
         "all cold",
         Shape {
-            kinds: Kinds::ColdOnly,
+            only: Some(Kind::Cold),
             ..NARROW
         },
     ),

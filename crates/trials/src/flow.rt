@@ -7,6 +7,7 @@ ghost use Rattle.std.specs.Prelude.{◌<◌};
 use crate::lists::{Kind, List, Stream};
 use crate::trouble::Trouble;
 use std::alloc::{AllocError, Global};
+use std::collections::VecDeque;
 use std::iter::successors;
 
 // So many degrees of hot streams, and so many of cold ones, can be looked at.
@@ -26,7 +27,7 @@ const ANY_AMOUNT: u64 = 1 << 60;
 // More paths than a search for shortest ones can take.
 const MOST_PATHS: usize = 1_000_000;
 
-// Hot degrees, counted from the lowest, then cold ones, the source and the sink.
+// Hot degrees, counted from the lowest, then cold ones, the source and the sink: numbers, since they are the rows and columns of a square.
 #[derive(Clone, Copy, PartialEq, Eq)]
 struct Node {
     number: usize,
@@ -46,10 +47,9 @@ struct Net {
     left: [[u64; NODES]; NODES],
 }
 
-// The nodes that can be reached from the source, in the order in which they were, and from which each was.
+// From which node each node was reached, of those that can be reached from the source.
 #[derive(Drop)]
 struct Reached {
-    order: Vec<Node>,
     before: [Option<Node>; NODES],
 }
 
@@ -57,7 +57,8 @@ struct Reached {
 fn base(streams: &[Stream], kind: Kind) -> Option<u32> {
     let lows = streams.iter().filter(|s| s.kind == kind).map(|s| s.low);
     let highs = streams.iter().filter(|s| s.kind == kind).map(|s| s.high);
-    let low = lows.min().unwrap_or(u32::MAX);
+    // where there are none, any temperature will do
+    let low = lows.min().unwrap_or(0);
     let high = highs.max().unwrap_or(0);
     (high.saturating_sub(low) as usize <= WIDTH).then_some(low)
 }
@@ -67,6 +68,7 @@ fn heat_at(streams: &[Stream], kind: Kind, degree: u32) -> u64 {
     streams
         .iter()
         .filter(|s| s.kind == kind && s.low <= degree && degree < s.high)
+        // no `sum`, which asks for a bound
         .fold(0u64, |heat, s| heat.saturating_add(u64::from(s.rate)))
 }
 
@@ -105,12 +107,17 @@ impl Net {
     }
 
     // Reaches on from a node.
-    fn reach_from(&self, from: Node, reached: &mut Reached) -> Result<(), AllocError> {
+    fn reach_from(
+        &self,
+        from: Node,
+        reached: &mut Reached,
+        next: &mut VecDeque<Node>,
+    ) -> Result<(), AllocError> {
         for (number, left) in self.left[from.number].iter().enumerate() {
             let to = Node { number };
             if *left > 0 && to != SOURCE && reached.before[number].is_none() {
                 reached.before[number] = Some(from);
-                reached.order.push(to)?;
+                next.push_back(to)?;
             }
         }
         Ok(())
@@ -119,16 +126,15 @@ impl Net {
     // All that can be reached from the source, the nearest first.
     fn reach(&self, heap: Global) -> Result<Reached, AllocError> {
         let mut reached = Reached {
-            order: Vec::new(heap),
             before: [None; NODES],
         };
-        reached.order.push(SOURCE)?;
-        // By place, since the order grows meanwhile.
-        for i in 0..NODES {
-            let Some(node) = reached.order.get(i).copied() else {
+        let mut next = VecDeque::new(heap);
+        next.push_back(SOURCE)?;
+        for _ in 0..NODES {
+            let Some(node) = next.pop_front() else {
                 break;
             };
-            self.reach_from(node, &mut reached)?;
+            self.reach_from(node, &mut reached, &mut next)?;
         }
         Ok(reached)
     }

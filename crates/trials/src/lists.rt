@@ -3,8 +3,8 @@ use crate::random::Random;
 use std::alloc::{AllocError, Global};
 use std::fmt;
 
-// No stream goes above this temperature with the gap.
-const TOP: u32 = 1000;
+// No stream goes above this temperature with the gap, and nothing is counted there.
+pub const TOP: u32 = 1000;
 
 #[derive(Clone, Copy, PartialEq, Eq)]
 pub enum Kind {
@@ -28,14 +28,6 @@ pub struct List {
     pub gap: u32,
 }
 
-// Which kinds of streams a list has.
-#[derive(Clone, Copy)]
-pub enum Kinds {
-    Both,
-    HotOnly,
-    ColdOnly,
-}
-
 // Where the streams lie.
 #[derive(Clone, Copy)]
 pub enum Place {
@@ -46,12 +38,12 @@ pub enum Place {
     Top,
 }
 
-// From so many to so many.
+// From so many to so many; the library's range from end to end is not copied.
 #[derive(Clone, Copy)]
 pub struct Span(pub u32, pub u32);
 
 // How a list is made: how many streams, the gap, heat for each degree, how many degrees all streams of a kind lie within, and that every end is a multiple of so many degrees
-// away from the lowest, so that ends touch.
+// away from the lowest, so that ends touch; and whether all are of one kind.
 #[derive(Clone, Copy)]
 pub struct Shape {
     pub streams: Span,
@@ -59,7 +51,7 @@ pub struct Shape {
     pub rate: Span,
     pub width: u32,
     pub grain: u32,
-    pub kinds: Kinds,
+    pub only: Option<Kind>,
     pub place: Place,
 }
 
@@ -95,14 +87,10 @@ impl Shape {
     }
 
     fn kind(self, random: &mut Random) -> Kind {
-        match self.kinds {
-            Kinds::Both => match random.between(0, 1) {
-                1 => Kind::Hot,
-                _ => Kind::Cold,
-            },
-            Kinds::HotOnly => Kind::Hot,
-            Kinds::ColdOnly => Kind::Cold,
-        }
+        self.only.unwrap_or_else(|| match random.between(0, 1) {
+            1 => Kind::Hot,
+            _ => Kind::Cold,
+        })
     }
 
     // A list of this shape. Hot streams lie above the cold ones by the gap, as far as they may.
@@ -174,6 +162,7 @@ impl List {
             .iter()
             .filter(|s| s.kind == kind)
             .map(|s| s.heat_from(shift, temperature))
+            // no `sum`, which asks for a bound
             .fold(0u64, |sum, heat| sum.saturating_add(heat))
     }
 }

@@ -38,8 +38,8 @@ struct Counts {
 
 impl Counts {
     fn add(&mut self, found: Found) {
-        self.flows = self.flows.saturating_add(found.beside_flow as usize);
-        self.mixed = self.mixed.saturating_add(found.mixed as usize);
+        self.flows = self.flows.saturating_add(usize::from(found.beside_flow));
+        self.mixed = self.mixed.saturating_add(usize::from(found.mixed));
     }
 }
 

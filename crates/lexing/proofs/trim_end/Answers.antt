@@ -1,9 +1,6 @@
 use Rattle.std.proofs.Common.{rules, tests}
-use Rattle.lexing.proofs.Cutting.{blanks_begin, all_blank}
+use Rattle.lexing.proofs.Cutting.{blanks_begin}
 use Rattle.lexing.proofs.trim_end.Goals as goal
 
 pub returns-in-Some : goal.returns-in-Some
 returns-in-Some c = search (rules, tests, blanks_begin)
-
-pub returns-in-None : goal.returns-in-None
-returns-in-None c = search (rules, tests, all_blank)

@@ -4,4 +4,4 @@ use Rattle.streams.specs.Numbers.{numbers_of}
 use Rattle.text.proofs.problem.Problem.numbers.Given as goal
 
 abbrev pub invariant-loop-line : goal.invariant-loop-line
-invariant-loop-line l = vec_items l.numbers ≡ flat_map (λ line. numbers_of line.stream) (take l.line-index l.line-items)
+invariant-loop-line l = vec_items l.numbers ≡ flat_map (λ line. numbers_of line.what) (take l.line-index l.line-items)
