@@ -24,8 +24,8 @@ impl Targets {
         ensures { Found (supply_in loads.now) (demand_in loads.now) result }
     {
         let mut so_far = Descent::default();
-        let degrees = loads.supply.iter().zip(&loads.demand).enumerate();
-        for (degree, (give, take)) in degrees.rev() {
+        let supply = loads.supply.iter().enumerate().rev();
+        for ((degree, give), take) in supply.zip(loads.demand.iter().rev()) {
             so_far = so_far.lower(degree, *give, *take);
         }
         Targets {

@@ -4,7 +4,7 @@ use Rattle.std.specs.Iterator.Adapters.{rev_source, enumerate_source, zip_first}
 use Rattle.streams.proofs.Sums.{from_bottom}
 use Rattle.streams.specs.Loaded.{supply_in, demand_in}
 use Rattle.targets.proofs.Down.{heating_found, pinch_found, enough}
-use Rattle.targets.proofs.Turns.{turn_none, fits, even_left, turn_more, turn_all}
+use Rattle.targets.proofs.Turns.{turn_none, fits, turn_more, turn_all}
 use Rattle.targets.proofs.Promises.{found}
 use Rattle.targets.proofs.Targets.of.Goals as goal
 
@@ -16,28 +16,25 @@ loop-degree-init c =
 
 pub lower-so_far-requires : goal.lower-so_far-requires
 lower-so_far-requires c =
-    let turn = c.loop-degree.invariant.0 in
-    let pair = c.in-Some.ensures.steps.1.0 in
-    let fit = fits _ _ _ _ (pair.0.3 (omega (arith, turn.even))) (pair.1.3 (omega (arith, turn.even))) turn in
+    let steps = c.in-Some.ensures.steps in
+    let fit = fits _ _ _ _ steps.0.1.0 steps.1 c.loop-degree.invariant.0 in
     record { supply_fits = omega arith; demand_fits = omega arith }
 
 pub loop-degree-preserved : goal.loop-degree-preserved
 loop-degree-preserved c =
-    let turn = c.loop-degree.invariant.0 in
-    let steps = c.in-Some.ensures.steps in
-    let give = steps.1.0.0.3 (omega (arith, turn.even)) in
-    let take = steps.1.0.1.3 (omega (arith, turn.even)) in
-    let even = even_left _ _ _ _ give take turn in
-    (turn_more _ _ _ _ give take turn _ _ (omega (arith, even, steps.1.1, c.loop-degree.invariant.1)) c.lower-so_far.ensures, omega (arith, steps.0, c.loop-degree.invariant.1))
+    let steps = c.in-Some.ensures.steps in (
+      turn_more _ _ _ _ steps.0.1.0 steps.1 c.loop-degree.invariant.0 _ _ (omega (arith, steps.0.1.1, c.loop-degree.invariant.1)) c.lower-so_far.ensures,
+      omega (arith, steps.0.0, c.loop-degree.invariant.1),
+    )
 
 pub overflow_sub-result : goal.overflow_sub-result
 overflow_sub-result c =
-    let z : length (iter_rest (zip_first (enumerate_source (rev_source c.loop-degree.degree-iterator)))) ≤ 0 = grind (arith, c.in-None.ensures.steps, c.loop-degree.invariant.0.even) in
+    let z : length (iter_rest (enumerate_source (rev_source (zip_first c.loop-degree.degree-iterator)))) ≤ 0 = grind (arith, c.in-None.ensures.steps, c.loop-degree.invariant.0.even) in
     enough 1000 _ _ _ _ _ _ (omega arith) (turn_all _ _ _ _ z c.loop-degree.invariant.0)
 
 pub returns : goal.returns
 returns c =
-    let z : length (iter_rest (zip_first (enumerate_source (rev_source c.loop-degree.degree-iterator)))) ≤ 0 = grind (arith, c.in-None.ensures.steps, c.loop-degree.invariant.0.even) in
+    let z : length (iter_rest (enumerate_source (rev_source (zip_first c.loop-degree.degree-iterator)))) ≤ 0 = grind (arith, c.in-None.ensures.steps, c.loop-degree.invariant.0.even) in
     let d = turn_all _ _ _ _ z c.loop-degree.invariant.0 in
     found _ _ _ (heating_found 1000 _ _ _ _ _ _ d)
     (omega (arith, d.supply_is, d.demand_is, from_bottom 1000 (supply_in c.args.loads.now), from_bottom 1000 (demand_in c.args.loads.now), enough 1000 _ _ _ _ _ _ (omega arith) d))

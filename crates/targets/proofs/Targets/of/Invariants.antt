@@ -6,5 +6,5 @@ use Rattle.targets.proofs.Targets.of.Given as goal
 
 abbrev pub invariant-loop-degree : goal.invariant-loop-degree
 invariant-loop-degree l =
-    let pairs = enumerate_source (rev_source l.degree-iterator) in
-    Turn l.loads (iter_rest (zip_first pairs)) (iter_rest (zip_second pairs)) l.so_far × (enumerate_count (rev_source l.degree-iterator) ≡ 0)
+    let degrees = rev_source (zip_first l.degree-iterator) in
+    Turn l.loads (iter_rest (enumerate_source degrees)) (iter_rest (rev_source (zip_second l.degree-iterator))) l.so_far × (enumerate_count degrees ≡ 0)
