@@ -19,7 +19,8 @@ fn heat_at(stream: &[u32; 4], shift: u64, degree: u32) -> u64
 
 impl Case<'_> {
     // What hot streams give in a degree; 64 of less than 2^32 each fit. The judge reads a mark for itself, since it calls no code of the planner: 1 is hot.
-    // Hot and cold differ in the marks that count and in the shift, so each is a chain.
+    // Two chains, this and the next: with the test of the mark as a parameter, the contract would have to say what a closure computes, and with the mark
+    // as a flag, both the clause and the filter would compare it with a test.
     fn given_at(&self, degree: u32) -> u64
         ensures { result ≡ sum_by (heat_in 0 degree) (filter (λ s. slice_index s 0 == 1) self.now.streams.now) }
     {

@@ -74,7 +74,8 @@ pub fn trim_end(line: &[u8]) -> &[u8]
     }
 }
 
-// The place of the first byte that is no blank. A function of its own, as the next one is: behind a `?` or a `match` the proof loses which place it is.
+// The place of the first byte that is no blank. This and the next are functions of their own, since with both in `split_word` the proof did not close;
+// and they are two, since with the test as a parameter the contract would have to say what a closure computes.
 fn find_word(text: &[u8]) -> Option<usize>
     ensures { result ≡ position (λ b. not (blank b)) text.now }
 {

@@ -24,6 +24,7 @@ impl Targets {
         ensures { Found (supply_in loads.now) (demand_in loads.now) result }
     {
         let mut so_far = Descent::default();
+        // The degree comes with one side: counted behind both, the planner takes half as long again for one stream.
         let supply = loads.supply.iter().enumerate().rev();
         for ((degree, give), take) in supply.zip(loads.demand.iter().rev()) {
             so_far = so_far.lower(degree, *give, *take);

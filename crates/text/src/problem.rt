@@ -91,7 +91,8 @@ impl Problem {
         self.gap.map_or(0, |line| u64::from(line.what))
     }
 
-    // The place of the line that a refusal speaks of. Three of them never come of a text: it gives whole fours, room enough and lines that were read.
+    // The place of the line that a refusal speaks of. Four of them never come of a text: it gives whole
+    // fours, marks of kinds, room enough and lines that were read.
     pub(crate) fn place_of(&self, refusal: Refusal) -> usize
         ensures { result ≡ line_of (asked_by self.now) refusal }
     {

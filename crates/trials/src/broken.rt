@@ -1,6 +1,6 @@
 // Sound lists that are made to break one rule.
 use crate::LEAST_ROOM;
-use crate::lists::{List, Stream};
+use crate::lists::{List, Stream, TOP};
 use crate::random::Random;
 use std::alloc::{AllocError, Global};
 
@@ -80,10 +80,10 @@ impl Broken {
                 self.numbers
                     .extend_from_slice([[1, 0, 1, 1]; 64].as_flattened())?;
             }
-            Rule::GapTooWide => self.gap = 1001,
+            Rule::GapTooWide => self.gap = u64::from(TOP) + 1,
             Rule::UnknownKind => self.set(i, [2, low, high, rate]),
             Rule::NoWidth => self.set(i, [mark, low, low, rate]),
-            Rule::TooWarm => self.set(i, [mark, low, 1001u32.saturating_sub(gap), rate]),
+            Rule::TooWarm => self.set(i, [mark, low, (TOP + 1).saturating_sub(gap), rate]),
             Rule::NoHeat => self.set(i, [mark, low, high, 0]),
             Rule::TooMuchHeat => self.set(i, [mark, low, high, 1_000_001]),
             Rule::RoomTooSmall => self.room = LEAST_ROOM - 1,

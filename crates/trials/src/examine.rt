@@ -6,7 +6,7 @@ use judge::judge;
 use plans::Done;
 use std::alloc::Global;
 
-// The mark of the boiler, as what gives.
+// The mark of the boiler, as what gives. The trials' own, as all that they count by: a slip must not hide both here and in the planner.
 const BOILER: u32 = 65535;
 
 // What is found where all is as it should be: whether a largest flow says the same, where the streams are narrow enough for one, and whether some heat passes and some is bought.
@@ -16,7 +16,7 @@ pub struct Found {
     pub mixed: bool,
 }
 
-// Whether all numbers are the one that was there before.
+// Whether all numbers are the one that was there before; a line that worked cases have too.
 pub fn untouched(room: &[u32], fill: u32) -> bool {
     room.iter().all(|number| *number == fill)
 }

@@ -73,7 +73,8 @@ fn heat_at(streams: &[Stream], kind: Kind, degree: u32) -> u64 {
 }
 
 impl Net {
-    // Lets any amount pass from a hot degree to each cold one that lies the gap below it or lower.
+    // Lets any amount pass from a hot degree to each cold one that lies the gap below it or lower. Number, temperature, base and gap one by one: this is
+    // the only place where they come together.
     fn join(&mut self, hot: usize, hot_degree: u32, cold_base: u32, gap: u32)
         requires { hot < 40 }
     {
@@ -130,6 +131,7 @@ impl Net {
         };
         let mut next = VecDeque::new(heap);
         next.push_back(SOURCE)?;
+        // counted, so that it ends: no node is reached twice
         for _ in 0..NODES {
             let Some(node) = next.pop_front() else {
                 break;

@@ -24,7 +24,7 @@ const LISTS: usize = 1000;
 
 const SEED: u64 = 20;
 
-// The least room that the planner takes, and the most that it is given here.
+// The least room that the planner takes, a number of the trials' own, and the most that it is given here.
 const LEAST_ROOM: usize = 6000;
 
 const MOST_ROOM: usize = 6030;
