@@ -1,5 +1,5 @@
 -- What a text asks, line by line.
-use Rattle.std.specs.Prelude.{◌≡◌, ℕ, ◌+◌, Bool, true, false, List, [], ◌∷◌, ◌++◌, Some, None, Ok, Err, map, vec_items, unwrap_or, option_map, Option, Result, slice_index}
+use Rattle.std.specs.Prelude.{◌≡◌, ℕ, ◌+◌, Bool, true, false, List, [], ◌∷◌, ◌++◌, Some, None, Ok, Err, vec_items, unwrap_or, option_map, Option, Result, slice_index}
 use Rattle.std.specs.List.{flat_map}
 use Rattle.streams.specs.Numbers.{numbers_of}
 use Rattle.streams.specs.declared.refusals.Refusal.{Refusal}
@@ -71,8 +71,8 @@ line_of a (refusals.Unreadable i) = slice_index a.stream_lines i
 -- what the code has read
 abbrev pub asked_by : Problem → Asked
 asked_by p = record {
-  numbers = flat_map (λ line. numbers_of line.what) (vec_items p.streams);
-  stream_lines = map (λ line. line.place) (vec_items p.streams);
+  numbers = flat_map (λ stream. stream) (vec_items p.streams);
+  stream_lines = vec_items p.places;
   gap = option_map (λ line. line.what) p.gap;
   gap_line = unwrap_or (option_map (λ line. line.place) p.gap) 0;
   plan = p.plan;

@@ -43,10 +43,9 @@ pub fn answer(heap: Global, text: &[u8]) -> Result<String, Turned<'_>>
     ensures quotes { Quotes text.now result }
 {
     let problem = read_problem(heap, text)?;
-    let numbers = problem.numbers(heap)?;
     // The planner allocates nothing: it is lent a room, and says how much of it the plan takes.
     let mut room = [0; LEAST_ROOM];
-    match write_plan(&numbers, problem.gap(), &mut room) {
+    match write_plan(problem.numbers(), problem.gap(), &mut room) {
         Ok(written) => Ok(printed(heap, written, problem.plan, &room)?),
         Err(refusal) => {
             let place = problem.place_of(refusal);

@@ -1,24 +1,26 @@
 // What a text asks, as it is read so far.
-ghost use Rattle.std.specs.Prelude.{◌≡◌, IfOk, unwrap_or, slice_index_or};
+ghost use Rattle.std.specs.Prelude.{◌≡◌, unwrap_or, slice_index_or};
 ghost use Rattle.text.specs.Asked.{asked_by, nothing_asked, line_of, Noted};
 
 use crate::turned::Turned;
 use grammar::{LineFault, Statement};
-use std::alloc::{AllocError, Global};
-use streams::{MOST_STREAMS, Refusal, Stream};
+use std::alloc::Global;
+use streams::{MOST_STREAMS, Refusal};
 
-// What a line says, with the place of the line.
+// The gap that a line gives, with the place of the line.
 #[derive(Clone, Copy)]
-pub(crate) struct Said<T> {
-    pub(crate) what: T,
+pub(crate) struct Said {
+    pub(crate) what: u32,
     pub(crate) place: usize,
 }
 
-// The streams in the order of their lines; the gap, if a line gave it; and whether the plan is wished for.
+// The streams in the order of their lines, each as four numbers; the places of those lines, in a list of their own, so that the planner can be lent the numbers as they stand;
+// the gap, if a line gave it; and whether the plan is wished for.
 #[derive(Drop)]
 pub(crate) struct Problem {
-    pub(crate) streams: Vec<Said<Stream>>,
-    pub(crate) gap: Option<Said<u32>>,
+    pub(crate) streams: Vec<[u32; 4]>,
+    pub(crate) places: Vec<usize>,
+    pub(crate) gap: Option<Said>,
     pub(crate) plan: bool,
 }
 
@@ -29,6 +31,7 @@ impl Problem {
     {
         Problem {
             streams: Vec::new(heap),
+            places: Vec::new(heap),
             gap: None,
             plan: false,
         }
@@ -45,10 +48,8 @@ impl Problem {
         match said {
             None => {}
             Some(Statement::Stream(stream)) => {
-                self.streams.push(Said {
-                    what: stream,
-                    place,
-                })?;
+                self.streams.push(stream.into())?;
+                self.places.push(place)?;
             }
             Some(Statement::Gap(gap)) => {
                 if self.gap.is_some() {
@@ -72,16 +73,11 @@ impl Problem {
         Ok(())
     }
 
-    // The streams as the planner takes them, each as four numbers.
-    pub(crate) fn numbers(&self, heap: Global) -> Result<Vec<u32>, AllocError>
-        ensures { IfOk result (λ v. v.items ≡ (asked_by self.now).numbers) }
+    // The streams as the planner takes them, all their numbers in one list.
+    pub(crate) fn numbers(&self) -> &[u32]
+        ensures { result.now ≡ (asked_by self.now).numbers }
     {
-        let mut numbers = Vec::new(heap);
-        // A `for`: of a chain whose closure answers arrays a proof does not know the whole list.
-        for line in &self.streams {
-            numbers.extend_from_slice(&<[u32; 4]>::from(line.what))?;
-        }
-        Ok(numbers)
+        self.streams.as_flattened()
     }
 
     // The gap, which is 0 where no line gave it.
@@ -113,6 +109,6 @@ impl Problem {
     fn place_of_stream(&self, i: usize) -> usize
         ensures { result ≡ slice_index_or (asked_by self.now).stream_lines i 0 }
     {
-        self.streams.get(i).map_or(0, |line| line.place)
+        self.places.get(i).copied().unwrap_or(0)
     }
 }

@@ -4,7 +4,6 @@
 #[cfg(test)]
 mod tests {
     use std::alloc::Global;
-    use std::process::Abort;
     use std::test::Fail;
 
     const FOUR: &str = "hot 180 60 3\nhot 150 30 1\ncold 20 135 2\ncold 80 140 4\n";
@@ -17,16 +16,16 @@ mod tests {
         }
     }
 
-    // Each text of the table, behind these first lines, is answered by what stands beside it. A test may stop where one is not.
-    fn expect_each(
-        rt: &impl Abort,
-        heap: Global,
-        first: &str,
-        table: &[(&str, &str)],
-    ) -> Result<(), Fail> {
+    // Each text of the table, behind these first lines, is answered by what stands beside it, or the first that is not is the test's failure.
+    fn expect_each(heap: Global, first: &str, table: &[(&str, &str)]) -> Result<(), Fail> {
         for (more, wanted) in table {
             let text = format!(in heap; "{first}{more}")?;
-            assert_eq!(rt; said(heap, text.as_bytes())?.as_str(), *wanted, "{}", more);
+            let answer = said(heap, text.as_bytes())?;
+            if answer.as_str() != *wanted {
+                return Err(Fail::new(format_args!(
+                    "{more:?} is answered by {answer:?}, and not by {wanted:?}"
+                )));
+            }
         }
         Ok(())
     }
@@ -43,7 +42,7 @@ mod tests {
                 "boiler 140, river 150, nothing passes at 120\n",
             ),
         ];
-        expect_each(&rt, rt.alloc(), FOUR, &table)
+        expect_each(rt.alloc(), FOUR, &table)
     }
 
     // No streams, one, two; blanks, comments, ends of lines; the limits; and plans.
@@ -124,7 +123,7 @@ mod tests {
                 "boiler 0, river 0, nothing is lacking\n2 to 1, 2\n2 to 0, 2\n",
             ),
         ];
-        expect_each(&rt, rt.alloc(), "", &table)
+        expect_each(rt.alloc(), "", &table)
     }
 
     // The first line that can't be read is named, whatever the streams are.
@@ -208,7 +207,7 @@ mod tests {
                 "turned away 4 at 1: line 2 begins with 'nonsense', and a line begins with hot, cold, gap or plan",
             ),
         ];
-        expect_each(&rt, rt.alloc(), "", &table)
+        expect_each(rt.alloc(), "", &table)
     }
 
     // The line of the first stream that breaks a rule, or of the gap.
@@ -252,7 +251,7 @@ mod tests {
                 "turned away 2 at 0: line 1 ('hot 2 1 1000001') has heat for each degree that isn't 1 to 1000000",
             ),
         ];
-        expect_each(&rt, rt.alloc(), "", &table)
+        expect_each(rt.alloc(), "", &table)
     }
 
     #[test]
