@@ -1,17 +1,30 @@
 -- Where lines and words are cut, by the places of the bytes that end them.
-use Rattle.std.proofs.Common.{◌≡◌, ℕ, ◌+◌, ◌-◌, ◌<◌, ◌≤◌, Bool, true, false, not, eqb, List, [], ◌∷◌, length, get_or, take, drop, sym, refl, ap, ◌∙◌, add-zero, unwrap_or, arith, inl, inr, Some, None}
+use Rattle.std.proofs.Common.{◌≡◌, ℕ, ◌+◌, ◌-◌, ◌<◌, ◌≤◌, Bool, true, false, not, eqb, List, [], ◌∷◌, length, get_or, take, drop, sym, refl, ap, ◌∙◌, add-zero, unwrap_or, arith, inl, inr, ◌⊎◌, Some, None}
 use Rattle.std.proofs.lemmas.List.{take_rest, drop_more, take_all, length-take, get_or-drop, length-drop}
 use Rattle.std.proofs.lemmas.List.Splits.{slice_split_first, slice_split_none, length-slice_split}
 use Rattle.std.proofs.lemmas.List.Sums.{fails_before_first, passes_at_first, position_or_len_is, suffix_len_is, count_by-le-length, prefix_len-le-length}
 use Rattle.std.proofs.Math.ListN.{drop_of_length-le}
 use Rattle.std.specs.List.{position, position_or_len, slice_split, suffix_len}
-use Rattle.std.proofs.lemmas.Bool.{cases_lt}
+use Rattle.std.proofs.lemmas.Bool.{cases_lt, not-false}
 use Rattle.std.proofs.lemmas.Bool.Decides.{nat_tests}
 use Rattle.lexing.specs.Lexing.{blank, uncommented, trimmed, some_bytes, lines, words}
 
 -- no byte before a place passes
 abbrev pub Before : (ℕ → Bool) → List ℕ → ℕ → Type 0
 Before p bs i = (k : ℕ) → k < i → p (get_or bs k 0) ≡ false
+
+-- a byte passes at some place
+abbrev pub Somewhere : (ℕ → Bool) → List ℕ → Type 0
+Somewhere p bs = (k : ℕ) × (k < length bs) × (p (get_or bs k 0) ≡ true)
+
+-- No byte passes, or some byte does. What holds of a text with no such byte is stated below with this choice, and not with a premise on every byte:
+-- with the premise, the prover stops at a limit when it has beside it what holds where there is one.
+none_or_some : (p : ℕ → Bool) (bs : List ℕ) → Before p bs (length bs) ⊎ Somewhere p bs
+none_or_some p bs =
+    elim (cases_lt (position_or_len p bs) (length bs)) [
+      | inl l ↦ inr (position_or_len p bs, l, passes_at_first p bs 0 l)
+      | inr l ↦ inl (λ k m. fails_before_first p bs k 0 (omega arith))
+    ]
 
 -- the first that passes, or none
 first_is : (p : ℕ → Bool) (bs : List ℕ) (i : ℕ) → i < length bs → p (get_or bs i 0) ≡ true → Before p bs i → position_or_len p bs ≡ i
@@ -28,9 +41,13 @@ line_ends text end l h b =
     let p = first_is (λ b. eqb b 10) text end l h b in
     rw (take_rest text (end + 1), ← p) (slice_split_first (λ b. eqb b 10) text 0 (omega (arith, p)))
 
-pub last_line : (text : List ℕ) → Before (λ b. eqb b 10) text (length text) → lines text ≡ text ∷ []
+pub last_line : (text : List ℕ) → (lines text ≡ text ∷ []) ⊎ Somewhere (λ b. eqb b 10) text
 unfolding lines
-last_line text b = let p = none_is (λ b. eqb b 10) text b in grind (arith, slice_split_none, fails_before_first)
+last_line text =
+    elim (none_or_some (λ b. eqb b 10) text) [
+      | inl b ↦ let p = none_is (λ b. eqb b 10) text b in inl (grind (arith, slice_split_none, fails_before_first))
+      | inr s ↦ inr s
+    ]
 
 -- there is one line more than newlines
 pub lines_few : (text : List ℕ) → length (lines text) ≤ length text + 1
@@ -39,10 +56,16 @@ lines_few text = omega (arith, length-slice_split (λ b. eqb b 10) text, count_b
 
 -- a comment begins at the first '#'
 pub comment_begins : (line : List ℕ) (end : ℕ) → end < length line → eqb (get_or line end 0) 35 ≡ true → Before (λ b. eqb b 35) line end → take end line ≡ uncommented line
+unfolding uncommented
 comment_begins line end l h b = ap (λ n. take n line) (sym (first_is (λ b. eqb b 35) line end l h b))
 
-pub no_comment : (line : List ℕ) → Before (λ b. eqb b 35) line (length line) → line ≡ uncommented line
-no_comment line b = let p = none_is (λ b. eqb b 35) line b in sym (take_all (position_or_len (λ b. eqb b 35) line) line (omega (arith, p)))
+pub no_comment : (line : List ℕ) → (line ≡ uncommented line) ⊎ Somewhere (λ b. eqb b 35) line
+unfolding uncommented
+no_comment line =
+    elim (none_or_some (λ b. eqb b 35) line) [
+      | inl b ↦ let p = none_is (λ b. eqb b 35) line b in inl (sym (take_all (position_or_len (λ b. eqb b 35) line) line (omega (arith, p))))
+      | inr s ↦ inr s
+    ]
 
 -- a line ends after its last byte that is no blank, and is nothing where there is none
 pub blanks_begin : (line : List ℕ) (last : ℕ) → last < length line → blank (get_or line last 0) ≡ false → ((k : ℕ) → last < k → k < length line → blank (get_or line k 0) ≡ true) → take (last + 1) line ≡ trimmed line
@@ -52,12 +75,16 @@ blanks_begin line last l e after =
     let n : last + 1 ≡ length line - suffix_len blank line = omega (arith, s) in
     ap (λ k. take k line) n
 
-pub all_blank : (line : List ℕ) → ((k : ℕ) → k < length line → blank (get_or line k 0) ≡ true) → [] ≡ trimmed line
+pub all_blank : (line : List ℕ) → ([] ≡ trimmed line) ⊎ Somewhere (λ b. not (blank b)) line
 unfolding trimmed
-all_blank line all =
-    let s = suffix_len_is blank line 0 0 (omega arith) (λ k p. all k) (λ p. absurd (omega arith)) in
-    let n : length line - suffix_len blank line ≡ 0 = omega (arith, s) in
-    rw n refl
+all_blank line =
+    elim (none_or_some (λ b. not (blank b)) line) [
+      | inl b ↦
+          let s = suffix_len_is blank line 0 0 (omega arith) (λ k m p. not-false _ (b k p)) (λ p. absurd (omega arith)) in
+          let n : length line - suffix_len blank line ≡ 0 = omega (arith, s) in
+          inl (rw n refl)
+      | inr s ↦ inr s
+    ]
 
 -- blanks before a word are skipped
 abbrev start : List ℕ → ℕ

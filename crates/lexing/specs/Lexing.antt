@@ -9,7 +9,7 @@ abbrev pub blank : ℕ → Bool
 blank b = b == 32 || (b == 9 || b == 13)
 
 -- a line up to a '#', which begins a comment
-abbrev pub uncommented : List ℕ → List ℕ
+unfoldable pub uncommented : List ℕ → List ℕ
 uncommented l = before_first (λ b. b == 35) l
 
 -- a line without the blanks at its end

@@ -13,7 +13,7 @@ fn is_blank(b: u8) -> bool
 }
 
 // The first line, and the text behind its newline, if it has one.
-#[tactic(auto, using(crate::proofs::Cutting::last_line))]
+#[tactic(auto, using(crate::proofs::Cutting::line_ends, crate::proofs::Cutting::last_line))]
 pub fn split_line(text: &[u8]) -> (&[u8], Option<&[u8]>)
     ensures { LineAndRest text.now result.0.now result.1 }
 {
@@ -53,7 +53,7 @@ pub fn lines_of(text: &[u8]) -> Lines<'_>
 }
 
 // The line up to a '#', which begins a comment.
-#[tactic(auto, using(crate::proofs::Cutting::no_comment))]
+#[tactic(auto, using(crate::proofs::Cutting::comment_begins, crate::proofs::Cutting::no_comment))]
 pub fn before_comment(line: &[u8]) -> &[u8]
     ensures { result.now ≡ uncommented line.now }
 {
@@ -64,7 +64,7 @@ pub fn before_comment(line: &[u8]) -> &[u8]
 }
 
 // The line without the blanks at its end.
-#[tactic(auto, using(crate::proofs::Cutting::all_blank))]
+#[tactic(auto, using(crate::proofs::Cutting::blanks_begin, crate::proofs::Cutting::all_blank))]
 pub fn trim_end(line: &[u8]) -> &[u8]
     ensures { result.now ≡ trimmed line.now }
 {

@@ -30,7 +30,7 @@ loop-degree-preserved c =
 pub overflow_sub-result : goal.overflow_sub-result
 overflow_sub-result c =
     let z : length (iter_rest (enumerate_source (rev_source (zip_first c.loop-degree.degree-iterator)))) ≤ 0 = grind (arith, c.in-None.ensures.steps, c.loop-degree.invariant.0.even) in
-    enough 1000 _ _ _ _ _ _ (omega arith) (turn_all _ _ _ _ z c.loop-degree.invariant.0)
+    omega (arith, enough 1000 _ _ _ _ _ _ (omega arith) (turn_all _ _ _ _ z c.loop-degree.invariant.0))
 
 pub returns : goal.returns
 returns c =
